@@ -9,5 +9,6 @@ pub mod Promise
 -- What stands between a file's bytes and its ledger: what the functions below the calls promise.
 pub mod Bytes
 pub mod Walks
+pub mod Rules
 pub mod Image
 pub mod Audit

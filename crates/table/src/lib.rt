@@ -1,0 +1,2 @@
+// The definition table, read as a lent slice of words. Every function is total: a word past the end is 0.
+pub mod words;
