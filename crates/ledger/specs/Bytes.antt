@@ -5,7 +5,7 @@ use mathlib.Core.Bool.{true, cond, _||_}
 use mathlib.Core.List.{List, _++_}
 use lib.ListN.{length, getD, take, drop, replicate}
 use lib.Dec.{eqb, leb}
-use Rattle.ledger.specs.Numbers.{digits, run, sumOf, concatOf, part}
+use Rattle.ledger.specs.Numbers.{digits, run, concatOf, part}
 use Rattle.ledger.specs.Table.{chains, row, dataLen, calculated, inChain, linkedPrior}
 use Rattle.ledger.specs.Pages.{codeOf, pageOf, lineOf, calcAt, linkAt, recordSize, Ledger, kindAt, bytesAt, nextOf, priorOf, homeOf, calcNextOf, recordBytes}
 

@@ -241,7 +241,7 @@ read t l cur room =
     let x = cur .run in
     unless (eqb x 0) 6 (unless (ltb room (dataLen t (row t (kindAt l x)))) 12 (done (doneWith x (kindAt l x) 0) l cur))
 
--- Any call with its arguments; READ with its output's length.
+-- Any call with its arguments, READ with its output's length; UNKNOWN is any number but those of the fourteen.
 pub data Call : Type 0 where
   FORMAT : Call
   STORE : (n : ℕ) (d : List ℕ) → Call
@@ -255,6 +255,7 @@ pub data Call : Type 0 where
   CURRENT : (n : ℕ) → Call
   FIND : (j : ℕ) (k : List ℕ) → Call
   RELINK : (j m : ℕ) → Call
+  UNKNOWN : Call
 
 -- a ledger and the currency beside it; what FORMAT leaves
 pub record State : Type 0 where
@@ -279,6 +280,7 @@ turn t s (READ room) = read t (s .ledger) (s .cur) room
 turn t s (CURRENT n) = current t (s .ledger) (s .cur) n
 turn t s (FIND j k) = find t (s .ledger) (s .cur) j k
 turn t s (RELINK j m) = relink t (s .ledger) (s .cur) j m
+turn t s UNKNOWN = refuse 5
 
 -- a refused call leaves all as it was
 unfoldable pub settle : State → Turn → State

@@ -1,6 +1,6 @@
 -- Document 01, "Pages and records": reference codes, a record's size, randomizing, the ledger, its one layout, and when a file is sound.
 -- `p` is a page and `k` a line; `x`, `y` are codes of records and `m` of a master; `d` is a record's data.
-use Prim.Native.Nat.{ℕ, zero, suc, _+_, _*_, _-_, _/_, _%_, _^_, _≤_, _<_}
+use Prim.Native.Nat.{ℕ, _+_, _*_, _-_, _/_, _%_, _^_, _≤_, _<_}
 use mathlib.Core.Path.{_≡_}
 use mathlib.Core.Bool.{Bool, true, false, cond, not}
 use mathlib.Core.List.{List, [], _∷_, _++_, reverse}

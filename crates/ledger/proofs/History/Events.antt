@@ -11,7 +11,7 @@ use Rattle.ledger.specs.Numbers.{elem, keep, once, sameKey, without}
 use Rattle.ledger.specs.Table.{sortKey}
 use Rattle.ledger.specs.Pages.{Ledger, kindAt, keyIn, codes}
 use Rattle.ledger.specs.Currency.{occurrence}
-use Rattle.ledger.specs.Calls.{Turn, refuse, done, asDetail, goes, Call, FORMAT, STORE, DIRECT, KEY, NEXT, PRIOR, MASTER, EACH, MODIFY, DELETE, READ, CURRENT, FIND, RELINK, State, turn, step}
+use Rattle.ledger.specs.Calls.{Turn, refuse, done, asDetail, goes, Call, FORMAT, STORE, DIRECT, KEY, NEXT, PRIOR, MASTER, EACH, MODIFY, DELETE, READ, CURRENT, FIND, RELINK, UNKNOWN, State, turn, step}
 use Rattle.ledger.proofs.Lists.Tests.{byCases, same-or-not, eqb-same, not-or}
 use Rattle.ledger.proofs.Lists.Sieves.{keep-all, keep-same, keep-keep}
 use Rattle.ledger.proofs.Lists.Pairs.{once-head, once-tail}
@@ -58,6 +58,7 @@ eventsOf t s a (READ room) = []
 eventsOf t s a (CURRENT n) = []
 eventsOf t s a (FIND j k) = []
 eventsOf t s a (RELINK j m) = put j m (a .reference) ∷ []
+eventsOf t s a UNKNOWN = []
 
 unfoldable pub told : List ℕ → State → Call → Turn → List Event
 told t s c (refuse n) = []

@@ -4,16 +4,12 @@ use mathlib.Core.Path.{refl}
 use mathlib.Core.Logic.{inl}
 use mathlib.Core.Bool.{false≢true}
 use mathlib.Core.List.{List, [], _∷_}
-use mathlib.Core.Option.{none}
 use native.Mathlib.Omega.{arith}
-use lib.ListN.{getD, replicate}
-use Rattle.ledger.specs.Numbers.{pairs, once, run}
-use Rattle.ledger.specs.Pages.{bytesWith, empty, Ledger, isSome, used, recordBytes, WellFormed}
-use Rattle.ledger.specs.Answers.{refusedWith, doneWith}
+use lib.ListN.{getD}
+use Rattle.ledger.specs.Numbers.{pairs, once}
+use Rattle.ledger.specs.Pages.{bytesWith, empty, isSome, used, recordBytes, WellFormed}
 use Rattle.ledger.specs.Currency.{unset, InForce}
-use Rattle.ledger.specs.Calls.{State, start, Call, FORMAT, STORE, DIRECT, KEY, NEXT, PRIOR, MASTER, EACH, MODIFY, DELETE, READ, CURRENT, FIND, RELINK, turn, step, Turn, refuse, done, store, direct, key, current, find, next, prior, master, each, modify, relink, delete, read}
-use Rattle.ledger.specs.declared.Answer.{Answer}
-use Rattle.ledger.specs.declared.Currency.{Currency}
+use Rattle.ledger.specs.Calls.{State, start, Call, FORMAT, STORE, DIRECT, KEY, NEXT, PRIOR, MASTER, EACH, MODIFY, DELETE, READ, CURRENT, FIND, RELINK, UNKNOWN, step}
 use Rattle.ledger.proofs.Lists.Members.{elem-nil}
 use Rattle.ledger.proofs.Lists.Runs.{sumOf-most}
 use Rattle.ledger.proofs.Lists.Parts.{getD-zeros}
@@ -43,6 +39,7 @@ given (READ room) = []
 given (CURRENT n) = []
 given (FIND j k) = []
 given (RELINK j m) = []
+given UNKNOWN = []
 
 abbrev pub Byted : Call → Type 0
 Byted c = (i : ℕ) → getD (given c) i 0 < 256

@@ -11,7 +11,7 @@ use Rattle.ledger.specs.declared.Answer.{Answer}
 use Rattle.ledger.specs.declared.Currency.{Currency}
 use Rattle.ledger.specs.Pages.{codeOf, Ledger, present}
 use Rattle.ledger.specs.Answers.{doneWith}
-use Rattle.ledger.specs.Calls.{Turn, done, unless, arrive, found, along, freeLine, takes, tried, basePage, placeFor, stored, store, direct, key, current, find, next, prior, master, each, modified, modify, relinked, relink, deleted, delete, read, Call, FORMAT, STORE, DIRECT, KEY, NEXT, PRIOR, MASTER, EACH, MODIFY, DELETE, READ, CURRENT, FIND, RELINK, State, turn, answered}
+use Rattle.ledger.specs.Calls.{Turn, refuse, done, unless, arrive, found, along, freeLine, takes, tried, basePage, placeFor, stored, store, direct, key, current, find, next, prior, master, each, modified, modify, relinked, relink, deleted, delete, read, Call, FORMAT, STORE, DIRECT, KEY, NEXT, PRIOR, MASTER, EACH, MODIFY, DELETE, READ, CURRENT, FIND, RELINK, UNKNOWN, State, turn, answered}
 use Rattle.ledger.proofs.Lists.Searches.{firstOf-passes}
 use Rattle.ledger.proofs.Keeps.Placing.{taking}
 use Rattle.ledger.proofs.Delete.Backed.{delete-parts}
@@ -47,6 +47,10 @@ found-leaves t l cur p xs = unless-leaves _ 9 l _ (arrive-leaves t l cur _ _)
 -- no call of a ledger answers 3, "the file is not sound"
 abbrev pub NotThree : Turn → Type 0
 NotThree r = answered r .code ≢ 3
+
+refused-not-three : (n : ℕ) → n ≢ 3 → NotThree (refuse n)
+unfolding answered
+refused-not-three n low = low
 
 unless-not-three : (b : Bool) (n : ℕ) (r : Turn) → n ≢ 3 → NotThree r → NotThree (unless b n r)
 unfolding unless answered
@@ -165,3 +169,4 @@ turn-not-three t s (FIND j k) =
     unless-not-three _ 5 _ (omega arith) (unless-not-three _ 6 _ (omega arith) (unless-not-three _ 7 _ (omega arith) (unless-not-three _ 8 _ (omega arith) (found-not-three t (s .ledger) (s .cur) _ _))))
 turn-not-three t s (RELINK j m) =
     unless-not-three _ 5 _ (omega arith) (unless-not-three _ 6 _ (omega arith) (unless-not-three _ 7 _ (omega arith) (unless-not-three _ 9 _ (omega arith) (unless-not-three _ 10 _ (omega arith) (arrive-not-three t (s .ledger) (s .cur) _ 0 _)))))
+turn-not-three t s UNKNOWN = refused-not-three 5 (omega arith)

@@ -3,7 +3,7 @@ use Prim.Native.Nat.{ℕ, suc, _*_, _<_}
 use mathlib.Core.Path.{_≡_, sym, _∙_, fun-ext}
 use mathlib.Core.Logic.{_↔_, inl, inr}
 use mathlib.Core.Bool.{true, false, or-true}
-use mathlib.Core.List.{List, _∷_, reverse}
+use mathlib.Core.List.{List, _∷_}
 use native.Mathlib.Omega.{arith}
 use native.Mathlib.Nat.{zero-add}
 use lib.ListN.{length}

@@ -1,20 +1,18 @@
 -- An image, the bytes of each record and the head of each page: the ledger read off it, and when its records stand as the table says.
-use Prim.Native.Nat.{ℕ, suc, _+_, _*_, _≤_, _<_}
+use Prim.Native.Nat.{ℕ, _+_, _*_, _≤_, _<_}
 use mathlib.Core.Path.{_≡_, refl, sym, _∙_}
-use mathlib.Core.Bool.{Bool, true, false, cond, _&&_}
+use mathlib.Core.Bool.{true, false, _&&_}
 use mathlib.Core.List.{List, [], _∷_}
-use mathlib.Core.Option.{Option, none, some}
 use native.Mathlib.Omega.{arith}
-use lib.ListN.{length, getD, drop, length-drop}
+use lib.ListN.{length, drop, length-drop}
 use lib.Seq.{take-nil, length-take-le}
-use lib.Dec.{eqb, ltb, leb}
+use lib.Dec.{ltb, leb}
 use borrow.Author.Tests.{ltb-true, lt-ltb, le-leb}
-use Rattle.ledger.specs.Numbers.{elem, part}
-use Rattle.ledger.specs.Table.{pages, chains, low, high, row, dataLen, defined, calculated, isMaster, isDetail, calcKey, Accepted}
-use Rattle.ledger.specs.Pages.{pageOf, lineOf, recordSize, home, Ledger, Entry, kindOf, bytesOf, isSome, kindAt, bytesAt, present, codes, homeOf, used, Placed, calcAt, linkAt}
-use Rattle.ledger.specs.Bytes.{twoAt, threeAt, Formed}
-use Rattle.ledger.specs.Walks.{walked}
-use Rattle.ledger.specs.Image.{kindIn, dataIn, entryIn, detailIn, masterIn, nextIn, priorIn, ringIn, homeIn, homedIn, headOf, calcNextIn, calcIn, ledgerOf, Standing, Paged}
+use Rattle.ledger.specs.Numbers.{elem}
+use Rattle.ledger.specs.Table.{pages, chains, row, dataLen, isMaster, isDetail, Accepted}
+use Rattle.ledger.specs.Pages.{kindOf, bytesOf, isSome, kindAt, bytesAt, present, codes, homeOf, Placed}
+use Rattle.ledger.specs.Bytes.{twoAt}
+use Rattle.ledger.specs.Image.{kindIn, dataIn, entryIn, detailIn, masterIn, ringIn, homeIn, calcIn, ledgerOf, Paged}
 use Rattle.ledger.proofs.Lists.Parts.{part-bytes}
 use Rattle.ledger.proofs.Ledger.Rows.{size-least, code-listed}
 

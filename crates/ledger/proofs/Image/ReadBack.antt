@@ -2,19 +2,19 @@
 use Prim.Native.Nat.{ℕ, _≤_, _<_}
 use mathlib.Core.Path.{_≡_, sym, _∙_, fun-ext}
 use mathlib.Core.Logic.{_↔_}
-use mathlib.Core.Bool.{true, not, _&&_}
+use mathlib.Core.Bool.{true, _&&_}
 use mathlib.Core.List.{List}
 use native.Mathlib.Omega.{arith}
 use native.Mathlib.Nat.{zero-add}
 use lib.ListN.{length}
 use lib.Dec.{ltb, leb}
 use borrow.Author.Tests.{ltb-true, ltb-false, leb-true}
-use Rattle.ledger.specs.Numbers.{elem, pairs, sameKey}
-use Rattle.ledger.specs.Table.{pages, chains, order, duplicates, linkedPrior, calculated, calcKey, Accepted}
-use Rattle.ledger.specs.Pages.{Ledger, kindAt, bytesAt, present, keyIn, laid, recordBytes, headNext, layout, mayPrecede, WellFormed, Sound}
+use Rattle.ledger.specs.Numbers.{elem}
+use Rattle.ledger.specs.Table.{pages, chains, Accepted}
+use Rattle.ledger.specs.Pages.{Ledger, laid, recordBytes, headNext, layout, WellFormed, Sound}
 use Rattle.ledger.specs.Bytes.{Fields}
-use Rattle.ledger.specs.Image.{kindIn, nextIn, priorIn, homeIn, ledgerOf, Paged}
-use Rattle.ledger.specs.Audit.{Ordered, Audited, Ringed, Priors, Calced}
+use Rattle.ledger.specs.Image.{kindIn, nextIn, priorIn, homeIn, ledgerOf}
+use Rattle.ledger.specs.Audit.{Audited}
 use Rattle.ledger.proofs.Lists.Tests.{byCases, clash, both}
 use Rattle.ledger.proofs.Lists.Members.{elem-nil, no-members, no-length}
 use Rattle.ledger.proofs.Lists.Pairs.{once-nil}

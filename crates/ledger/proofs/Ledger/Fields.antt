@@ -11,7 +11,7 @@ use borrow.Author.Tests.{eq-eqb}
 use lib.Seq.{take-length}
 use Rattle.ledger.specs.Numbers.{part}
 use Rattle.ledger.specs.Table.{pages, chains, calculated, inChain, linkedPrior, Accepted}
-use Rattle.ledger.specs.Pages.{codeOf, pageOf, lineOf, linkBytes, recordSize, Ledger, kindAt, present, homeOf, recordBytes, headNext, page, layout, WellFormed, Sound, calcAt, linkAt, bytesWith, calcNext, nextOf, priorOf}
+use Rattle.ledger.specs.Pages.{codeOf, pageOf, lineOf, linkBytes, recordSize, Ledger, kindAt, present, homeOf, recordBytes, headNext, page, layout, WellFormed, Sound, calcAt, linkAt, calcNext, nextOf, priorOf}
 use Rattle.ledger.specs.Bytes.{lookup, startOf, placeOf, threeAt, Fields}
 use Rattle.ledger.proofs.Lists.Tests.{byCases}
 use Rattle.ledger.proofs.Lists.Runs.{sumOf-at}
