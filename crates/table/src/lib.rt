@@ -1,2 +1,4 @@
 // The definition table, read as a lent slice of words. Every function is total: a word past the end is 0.
+pub mod keys;
+pub mod sizes;
 pub mod words;
