@@ -9,7 +9,7 @@ use lib.Dec.{ltb, leb}
 use Rattle.ledger.specs.declared.Answer.{Answer}
 use Rattle.ledger.specs.Numbers.{digits, elem, keep, run, firstOf, sumOf, concatOf, any, all, putBefore, headOr, lastOr, follower, lessKey, sameKey, without, placeFrom, byIndex, update}
 use Rattle.ledger.specs.Table.{rowFrom, defined, calculated, isMaster, isDetail, inChain, calcKey, sortKey}
-use Rattle.ledger.specs.Rules.{counted, numbered, ranged, viaRight, keyed, typeRight, paired, sorted, chainRight, accepts}
+use Rattle.ledger.specs.Rules.{between, liesIn, counted, numbered, ranged, viaRight, keyed, typeRight, paired, sorted, chainRight, accepts}
 use Rattle.ledger.specs.Pages.{Ledger, codeOf, codes, linkBytes, calcAt, linkAt, recordSize, hashFrom, home, kindOf, bytesOf, isSome, keyIn, homeOf, masterOf, round, nextOf, priorOf, calcNextOf, headNext, used, free, chainLinks, links, bytesWith, recordBytes}
 use Rattle.ledger.specs.Currency.{unset, occurrence, arrived}
 use Rattle.ledger.specs.Calls.{Call, STORE, NEXT, unless, arrive, asDetail, stops, joined, twinIn, calcTwin, basePage, freeLine, takes, tried, placeFor, stored, store, along, next, master, State, start, turn, settle, answered, play}
@@ -90,5 +90,5 @@ expecteds [] = []
 expecteds (e ∷ es) = e .expected ∷ expecteds es
 
 pub edges : founds examples ≡ expecteds examples
-unfolding founds expecteds digits elem keep run firstOf sumOf concatOf any all putBefore headOr lastOr follower lessKey sameKey without placeFrom byIndex update rowFrom defined calculated isMaster isDetail inChain calcKey sortKey counted numbered ranged viaRight keyed typeRight paired sorted chainRight accepts codes linkBytes calcAt linkAt recordSize hashFrom home kindOf bytesOf isSome keyIn homeOf masterOf round nextOf priorOf calcNextOf headNext used free chainLinks links bytesWith recordBytes occurrence arrived unless arrive asDetail stops joined twinIn calcTwin basePage freeLine takes tried placeFor stored store along next master turn settle answered play
+unfolding founds expecteds digits elem keep run firstOf sumOf concatOf any all putBefore headOr lastOr follower lessKey sameKey without placeFrom byIndex update rowFrom defined calculated isMaster isDetail inChain calcKey sortKey between liesIn counted numbered ranged viaRight keyed typeRight paired sorted chainRight accepts codes linkBytes calcAt linkAt recordSize hashFrom home kindOf bytesOf isSome keyIn homeOf masterOf round nextOf priorOf calcNextOf headNext used free chainLinks links bytesWith recordBytes occurrence arrived unless arrive asDetail stops joined twinIn calcTwin basePage freeLine takes tried placeFor stored store along next master turn settle answered play
 edges = refl

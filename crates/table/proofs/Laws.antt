@@ -2,3 +2,4 @@
 pub mod Words
 pub mod Sizes
 pub mod Keys
+pub mod Rules
