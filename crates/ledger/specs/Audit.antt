@@ -7,21 +7,21 @@ use Rattle.ledger.specs.Numbers.{pairs, sameKey}
 use Rattle.ledger.specs.Table.{pages, chains, order, duplicates, linkedPrior, calculated, calcKey}
 use Rattle.ledger.specs.Pages.{Ledger, kindAt, bytesAt, present, keyIn, mayPrecede}
 use Rattle.ledger.specs.Walks.{Agrees, Rings}
-use Rattle.ledger.specs.Image.{detailIn, masterIn, nextIn, priorIn, ringIn, homedIn, headOf, calcNextIn, calcIn, ledgerOf, Paged}
+use Rattle.ledger.specs.Image.{detailRead, masterRead, nextRead, priorRead, ringRead, homedRead, headOf, calcNextRead, calcRead, ledgerOf, Paged}
 
 -- what the audit of NEXT tells of chain j
 pub record Ringed (t : List ℕ) (r : ℕ → List ℕ) (j : ℕ) : Type 0 where
-  pub rings : Rings (detailIn t r j) (masterIn t r j) (ringIn t r j)
-  pub nexts : (m : ℕ) → masterIn t r j m ≡ true → Agrees (nextIn t r j) m (ringIn t r j m)
+  pub rings : Rings (detailRead t r j) (masterRead t r j) (ringRead t r j)
+  pub nexts : (m : ℕ) → masterRead t r j m ≡ true → Agrees (nextRead t r j) m (ringRead t r j m)
 
 -- each of a ring has as PRIOR the one before it
 abbrev pub Priors : List ℕ → (ℕ → List ℕ) → ℕ → Type 0
-Priors t r j = (m : ℕ) → masterIn t r j m ≡ true → Agrees (priorIn t r j) m (reverse (ringIn t r j m))
+Priors t r j = (m : ℕ) → masterRead t r j m ≡ true → Agrees (priorRead t r j) m (reverse (ringRead t r j m))
 
 -- what the audit of page p's CALC ring tells
 pub record Calced (t : List ℕ) (r : ℕ → List ℕ) (h : ℕ → ℕ) (p : ℕ) : Type 0 where
-  pub rings : Rings (homedIn t r p) (headOf p) (calcIn t r h p)
-  pub nexts : Agrees (calcNextIn t r h p) (64 * p) (calcIn t r h p (64 * p))
+  pub rings : Rings (homedRead t r p) (headOf p) (calcRead t r h p)
+  pub nexts : Agrees (calcNextRead t r h p) (64 * p) (calcRead t r h p (64 * p))
 
 -- the rules of a well-formed ledger on keys
 pub record Ordered (t : List ℕ) (l : Ledger) : Type 0 where

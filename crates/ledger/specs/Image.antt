@@ -14,63 +14,63 @@ use Rattle.ledger.specs.Bytes.{twoAt, threeAt, Formed}
 use Rattle.ledger.specs.Walks.{walked}
 
 -- the type and the data that a record's bytes say: 0 and none of no bytes
-abbrev pub kindIn : List ℕ → ℕ
-kindIn b = twoAt b 0
+abbrev pub kindRead : List ℕ → ℕ
+kindRead b = twoAt b 0
 
-abbrev pub dataIn : List ℕ → List ℕ → List ℕ
-dataIn t b = part 5 (dataLen t (row t (kindIn b))) b
+abbrev pub dataRead : List ℕ → List ℕ → List ℕ
+dataRead t b = part 5 (dataLen t (row t (kindRead b))) b
 
-unfoldable pub entryIn : List ℕ → List ℕ → Option Entry
-entryIn t [] = none
-entryIn t (b ∷ bs) = some (record { kind = kindIn (b ∷ bs); bytes = dataIn t (b ∷ bs) })
+unfoldable pub entryRead : List ℕ → List ℕ → Option Entry
+entryRead t [] = none
+entryRead t (b ∷ bs) = some (record { kind = kindRead (b ∷ bs); bytes = dataRead t (b ∷ bs) })
 
 -- chain j: its details, its masters, its links, and the details met along NEXT from a master home
-unfoldable pub detailIn : List ℕ → (ℕ → List ℕ) → ℕ → ℕ → Bool
-detailIn t r j x = isDetail t j (kindIn (r x))
+unfoldable pub detailRead : List ℕ → (ℕ → List ℕ) → ℕ → ℕ → Bool
+detailRead t r j x = isDetail t j (kindRead (r x))
 
-unfoldable pub masterIn : List ℕ → (ℕ → List ℕ) → ℕ → ℕ → Bool
-masterIn t r j x = isMaster t j (kindIn (r x))
+unfoldable pub masterRead : List ℕ → (ℕ → List ℕ) → ℕ → ℕ → Bool
+masterRead t r j x = isMaster t j (kindRead (r x))
 
-unfoldable pub nextIn : List ℕ → (ℕ → List ℕ) → ℕ → ℕ → ℕ
-nextIn t r j x = threeAt (r x) (linkAt t (kindIn (r x)) j)
+unfoldable pub nextRead : List ℕ → (ℕ → List ℕ) → ℕ → ℕ → ℕ
+nextRead t r j x = threeAt (r x) (linkAt t (kindRead (r x)) j)
 
-unfoldable pub priorIn : List ℕ → (ℕ → List ℕ) → ℕ → ℕ → ℕ
-priorIn t r j x = threeAt (r x) (linkAt t (kindIn (r x)) j + 3)
+unfoldable pub priorRead : List ℕ → (ℕ → List ℕ) → ℕ → ℕ → ℕ
+priorRead t r j x = threeAt (r x) (linkAt t (kindRead (r x)) j + 3)
 
-abbrev pub ringIn : List ℕ → (ℕ → List ℕ) → ℕ → ℕ → List ℕ
-ringIn t r j = walked (suc (64 * pages t)) (nextIn t r j) (detailIn t r j) (masterIn t r j)
+abbrev pub ringRead : List ℕ → (ℕ → List ℕ) → ℕ → ℕ → List ℕ
+ringRead t r j = walked (suc (64 * pages t)) (nextRead t r j) (detailRead t r j) (masterRead t r j)
 
 -- page p: the calculated records whose home it is, its header, CALC NEXT, and the records met along it from the header home
-unfoldable pub homeIn : List ℕ → List ℕ → ℕ
-homeIn t b = home t (kindIn b) (calcKey t (kindIn b) (dataIn t b))
+unfoldable pub homeRead : List ℕ → List ℕ → ℕ
+homeRead t b = home t (kindRead b) (calcKey t (kindRead b) (dataRead t b))
 
-unfoldable pub homedIn : List ℕ → (ℕ → List ℕ) → ℕ → ℕ → Bool
-homedIn t r p x = ltb 0 (length (r x)) && calculated t (kindIn (r x)) && eqb (homeIn t (r x)) p
+unfoldable pub homedRead : List ℕ → (ℕ → List ℕ) → ℕ → ℕ → Bool
+homedRead t r p x = ltb 0 (length (r x)) && calculated t (kindRead (r x)) && eqb (homeRead t (r x)) p
 
 unfoldable pub headOf : ℕ → ℕ → Bool
 headOf p x = eqb x (64 * p)
 
-unfoldable pub calcNextIn : List ℕ → (ℕ → List ℕ) → (ℕ → ℕ) → ℕ → ℕ → ℕ
-calcNextIn t r h p x = cond (eqb x (64 * p)) (h p) (threeAt (r x) (calcAt t (kindIn (r x))))
+unfoldable pub calcNextRead : List ℕ → (ℕ → List ℕ) → (ℕ → ℕ) → ℕ → ℕ → ℕ
+calcNextRead t r h p x = cond (eqb x (64 * p)) (h p) (threeAt (r x) (calcAt t (kindRead (r x))))
 
-abbrev pub calcIn : List ℕ → (ℕ → List ℕ) → (ℕ → ℕ) → ℕ → ℕ → List ℕ
-calcIn t r h p = walked (suc (64 * pages t)) (calcNextIn t r h p) (homedIn t r p) (headOf p)
+abbrev pub calcRead : List ℕ → (ℕ → List ℕ) → (ℕ → ℕ) → ℕ → ℕ → List ℕ
+calcRead t r h p = walked (suc (64 * pages t)) (calcNextRead t r h p) (homedRead t r p) (headOf p)
 
 -- the ledger of an image
 unfoldable pub ledgerOf : List ℕ → (ℕ → List ℕ) → (ℕ → ℕ) → Ledger
 ledgerOf t r h = record {
-  at = λ x. entryIn t (r x);
-  ring = λ j m. cond (ltb j (chains t)) (ringIn t r j m) [];
-  calc = λ p. cond (leb 1 p && leb p (pages t)) (calcIn t r h p (64 * p)) [];
+  at = λ x. entryRead t (r x);
+  ring = λ j m. cond (ltb j (chains t)) (ringRead t r j m) [];
+  calc = λ p. cond (leb 1 p && leb p (pages t)) (calcRead t r h p (64 * p)) [];
 }
 
 -- the bytes b of code x are a record as the table says
 pub record Standing (t : List ℕ) (x : ℕ) (b : List ℕ) : Type 0 where
   pub head : Formed x b
-  pub typed : defined t (kindIn b) ≡ true
-  pub whole : length b ≡ recordSize t (kindIn b)
-  pub low-page : low t (row t (kindIn b)) ≤ pageOf x
-  pub high-page : pageOf x ≤ high t (row t (kindIn b))
+  pub typed : defined t (kindRead b) ≡ true
+  pub whole : length b ≡ recordSize t (kindRead b)
+  pub low-page : low t (row t (kindRead b)) ≤ pageOf x
+  pub high-page : pageOf x ≤ high t (row t (kindRead b))
   pub on-a-line : 1 ≤ lineOf x
   pub bytes : (i : ℕ) → getD b i 0 < 256
 

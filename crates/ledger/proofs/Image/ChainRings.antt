@@ -14,7 +14,7 @@ use Rattle.ledger.specs.Table.{pages, chains, linkedPrior, isMaster, isD
 use Rattle.ledger.specs.Pages.{Ledger, kindAt, present, codes, nextOf, priorOf, recordBytes, WellFormed}
 use Rattle.ledger.specs.Bytes.{twoAt}
 use Rattle.ledger.specs.Walks.{Agrees, Rings, audit}
-use Rattle.ledger.specs.Image.{kindIn, detailIn, masterIn, nextIn, priorIn, ringIn, ledgerOf, Paged}
+use Rattle.ledger.specs.Image.{kindRead, detailRead, masterRead, nextRead, priorRead, ringRead, ledgerOf, Paged}
 use Rattle.ledger.specs.Audit.{Ringed, Priors}
 use Rattle.ledger.proofs.Lists.Tests.{byCases, clash, not-true-false}
 use Rattle.ledger.proofs.Lists.Members.{elem-here, elem-tail, elem-cases, no-length, elem-turned}
@@ -33,46 +33,46 @@ unfolding codes
 codes-few t = omega (arith, length-run 64 (64 * pages t))
 
 module _ (t : List ℕ) (r : ℕ → List ℕ) (a : Accepted t) (g : Paged t r) (j : ℕ) (within : j < chains t) where
-  pub detail-some : (x : ℕ) → detailIn t r j x ≡ true → 0 < length (r x)
-  unfolding detailIn twoAt
+  pub detail-some : (x : ℕ) → detailRead t r j x ≡ true → 0 < length (r x)
+  unfolding detailRead twoAt
   detail-some x d = byCases (ltb 0 (length (r x)))
       (λ e. ltb-true _ _ e)
       (λ e. clash _ (rw (no-length (r x) (ltb-false _ _ e)) at d) (none-no-detail t j a within))
 
-  pub master-some : (x : ℕ) → masterIn t r j x ≡ true → 0 < length (r x)
-  unfolding masterIn twoAt
+  pub master-some : (x : ℕ) → masterRead t r j x ≡ true → 0 < length (r x)
+  unfolding masterRead twoAt
   master-some x d = byCases (ltb 0 (length (r x)))
       (λ e. ltb-true _ _ e)
       (λ e. clash _ (rw (no-length (r x) (ltb-false _ _ e)) at d) (none-no-master t j a within))
 
-  detail-below : (x : ℕ) → detailIn t r j x ≡ true → masterIn t r j x ≡ false
-  unfolding detailIn masterIn
+  detail-below : (x : ℕ) → detailRead t r j x ≡ true → masterRead t r j x ≡ false
+  unfolding detailRead masterRead
   detail-below x d = detail-no-master t j _ (a .chain-rows j within) d
 
-  pub apart : (x : ℕ) → masterIn t r j x ≡ true → detailIn t r j x ≡ false
+  pub apart : (x : ℕ) → masterRead t r j x ≡ true → detailRead t r j x ≡ false
   apart x m = not-true-false _ (λ d. clash _ m (detail-below x d))
 
-  details-listed : (x : ℕ) → detailIn t r j x ≡ true → elem x (codes t) ≡ true
+  details-listed : (x : ℕ) → detailRead t r j x ≡ true → elem x (codes t) ≡ true
   details-listed x d = standing-listed t r a g x (detail-some x d)
 
-  masters-listed : (x : ℕ) → masterIn t r j x ≡ true → elem x (codes t) ≡ true
+  masters-listed : (x : ℕ) → masterRead t r j x ≡ true → elem x (codes t) ≡ true
   masters-listed x m = standing-listed t r a g x (master-some x m)
 
-  pub chain-audit : (audit (suc (64 * pages t)) (nextIn t r j) (detailIn t r j) (masterIn t r j) (codes t) ≡ true) ↔ Ringed t r j
+  pub chain-audit : (audit (suc (64 * pages t)) (nextRead t r j) (detailRead t r j) (masterRead t r j) (codes t) ≡ true) ↔ Ringed t r j
   chain-audit = (
     λ e. let s = audit-sound _ _ _ (codes t) apart details-listed masters-listed _ (codes-few t) e in record { rings = s .0; nexts = s .1 },
-    λ s. audit-complete _ _ _ (codes t) apart details-listed masters-listed _ (codes-few t) (ringIn t r j) (s .rings) (s .nexts)
+    λ s. audit-complete _ _ _ (codes t) apart details-listed masters-listed _ (codes-few t) (ringRead t r j) (s .rings) (s .nexts)
         (unfold codes in once-run 64 (64 * pages t)),
   )
 
   -- there are no other rings than those that are walked
-  pub rings-read : (ring : ℕ → List ℕ) → Rings (detailIn t r j) (masterIn t r j) ring → ((m : ℕ) → masterIn t r j m ≡ true → Agrees (nextIn t r j) m (ring m))
-      → (m : ℕ) → ringIn t r j m ≡ ring m
+  pub rings-read : (ring : ℕ → List ℕ) → Rings (detailRead t r j) (masterRead t r j) ring → ((m : ℕ) → masterRead t r j m ≡ true → Agrees (nextRead t r j) m (ring m))
+      → (m : ℕ) → ringRead t r j m ≡ ring m
   rings-read ring s n = rings-walked _ _ _ (codes t) apart details-listed masters-listed _ (codes-few t) ring s n
 
   -- the ledger's links in chain j are the image's
   module _ (h : ℕ → ℕ) (s : Ringed t r j) where
-    pub image-own : (m x : ℕ) → elem x (ledgerOf t r h .ring j m) ≡ true → (masterIn t r j m ≡ true) × (detailIn t r j x ≡ true)
+    pub image-own : (m x : ℕ) → elem x (ledgerOf t r h .ring j m) ≡ true → (masterRead t r j m ≡ true) × (detailRead t r j x ≡ true)
     image-own m x e = s .rings .own m x (rw (image-ring t r h j m within) at e)
 
     pub image-one : (m n x : ℕ) → elem x (ledgerOf t r h .ring j m) ≡ true → elem x (ledgerOf t r h .ring j n) ≡ true → m ≡ n
@@ -90,39 +90,39 @@ module _ (t : List ℕ) (r : ℕ → List ℕ) (a : Accepted t) (g : Paged t r) 
       one = image-one;
     }
 
-    pub in-a-ring : (x : ℕ) → inChain t j (kindIn (r x)) ≡ true → (m : ℕ) × (masterIn t r j m ≡ true) × (elem x (m ∷ ringIn t r j m) ≡ true)
-    unfolding inChain masterIn detailIn
-    in-a-ring x c = byCases (isMaster t j (kindIn (r x)))
-        (λ e. (x, e, elem-here x (ringIn t r j x)))
+    pub in-a-ring : (x : ℕ) → inChain t j (kindRead (r x)) ≡ true → (m : ℕ) × (masterRead t r j m ≡ true) × (elem x (m ∷ ringRead t r j m) ≡ true)
+    unfolding inChain masterRead detailRead
+    in-a-ring x c = byCases (isMaster t j (kindRead (r x)))
+        (λ e. (x, e, elem-here x (ringRead t r j x)))
         (λ e.
         let q = s .rings .every x (rw e at c) in
-        (q .0, s .rings .own (q .0) x (q .1) .0, elem-tail x (q .0) (ringIn t r j (q .0)) (q .1)))
+        (q .0, s .rings .own (q .0) x (q .1) .0, elem-tail x (q .0) (ringRead t r j (q .0)) (q .1)))
 
-    pub next-read : (x : ℕ) → inChain t j (kindIn (r x)) ≡ true → nextIn t r j x ≡ nextOf t (ledgerOf t r h) j x
+    pub next-read : (x : ℕ) → inChain t j (kindRead (r x)) ≡ true → nextRead t r j x ≡ nextOf t (ledgerOf t r h) j x
     next-read x c =
         let q = in-a-ring x c in
         s .nexts (q .0) (q .1) x (q .2)
         ∙ sym (rw (image-ring t r h j (q .0) within) at
         (next-round t (ledgerOf t r h) j image-chained (q .0) (image-master t r h j (q .0) ∙ q .1) x (rw (image-ring t r h j (q .0) within) (q .2))))
 
-    pub prior-read : Priors t r j → (x : ℕ) → inChain t j (kindIn (r x)) ≡ true → priorIn t r j x ≡ priorOf t (ledgerOf t r h) j x
+    pub prior-read : Priors t r j → (x : ℕ) → inChain t j (kindRead (r x)) ≡ true → priorRead t r j x ≡ priorOf t (ledgerOf t r h) j x
     prior-read back x c =
         let q = in-a-ring x c in
-        back (q .0) (q .1) x (elem-turned x (q .0) (ringIn t r j (q .0)) ∙ q .2)
+        back (q .0) (q .1) x (elem-turned x (q .0) (ringRead t r j (q .0)) ∙ q .2)
         ∙ sym (rw (image-ring t r h j (q .0) within) at
         (prior-round t (ledgerOf t r h) j image-chained (q .0) (image-master t r h j (q .0) ∙ q .1) x (rw (image-ring t r h j (q .0) within) (q .2))))
 
 -- The converse: the rings of a well-formed ledger, in the image that is its bytes.
 module _ (t : List ℕ) (l : Ledger) (a : Accepted t) (w : WellFormed t l) (j : ℕ) (within : j < chains t) where
-  ledger-master : (x : ℕ) → masterIn t (recordBytes t l) j x ≡ isMaster t j (kindAt l x)
-  unfolding masterIn
+  ledger-master : (x : ℕ) → masterRead t (recordBytes t l) j x ≡ isMaster t j (kindAt l x)
+  unfolding masterRead
   ledger-master x = rw (laid-kind t l a w x)
 
-  ledger-detail : (x : ℕ) → detailIn t (recordBytes t l) j x ≡ isDetail t j (kindAt l x)
-  unfolding detailIn
+  ledger-detail : (x : ℕ) → detailRead t (recordBytes t l) j x ≡ isDetail t j (kindAt l x)
+  unfolding detailRead
   ledger-detail x = rw (laid-kind t l a w x)
 
-  ledger-rings : Rings (detailIn t (recordBytes t l) j) (masterIn t (recordBytes t l) j) (l .ring j)
+  ledger-rings : Rings (detailRead t (recordBytes t l) j) (masterRead t (recordBytes t l) j) (l .ring j)
   ledger-rings = record {
     ones = w .ring-once j;
     own = λ m x e. let o = w .ring-own j m x e in (ledger-master m ∙ o .2, ledger-detail x ∙ o .4);
@@ -131,7 +131,7 @@ module _ (t : List ℕ) (l : Ledger) (a : Accepted t) (w : WellFormed t l) (j : 
   }
 
   -- each of a ring is a record of the chain
-  ring-there : (m : ℕ) → masterIn t (recordBytes t l) j m ≡ true → (x : ℕ) → elem x (m ∷ l .ring j m) ≡ true
+  ring-there : (m : ℕ) → masterRead t (recordBytes t l) j m ≡ true → (x : ℕ) → elem x (m ∷ l .ring j m) ≡ true
       → (present l x ≡ true) × (inChain t j (kindAt l x) ≡ true)
   unfolding inChain
   ring-there m top x e = elim (elem-cases x m (l .ring j m) e) [
@@ -139,13 +139,13 @@ module _ (t : List ℕ) (l : Ledger) (a : Accepted t) (w : WellFormed t l) (j : 
     | inr i ↦ (let o = w .ring-own j m x i in (o .3, rw (o .4) (or-true (isMaster t j (kindAt l x)))))
   ]
 
-  ledger-nexts : (m : ℕ) → masterIn t (recordBytes t l) j m ≡ true → Agrees (nextIn t (recordBytes t l) j) m (l .ring j m)
-  unfolding nextIn
+  ledger-nexts : (m : ℕ) → masterRead t (recordBytes t l) j m ≡ true → Agrees (nextRead t (recordBytes t l) j) m (l .ring j m)
+  unfolding nextRead
   ledger-nexts m top x e =
       let q = ring-there m top x e in
       rw (laid-kind t l a w x) (rw zero-add at (own-fields t l a w x (q .0) .next j within (q .1)) ∙ ring-agrees t l a w j m (sym (ledger-master m) ∙ top) x e)
 
-  pub ring-back : (m : ℕ) → ringIn t (recordBytes t l) j m ≡ l .ring j m
+  pub ring-back : (m : ℕ) → ringRead t (recordBytes t l) j m ≡ l .ring j m
   ring-back = rings-read t (recordBytes t l) a (laid-paged t l a w) j within (l .ring j) ledger-rings ledger-nexts
 
   pub laid-ringed : Ringed t (recordBytes t l) j
@@ -155,7 +155,7 @@ module _ (t : List ℕ) (l : Ledger) (a : Accepted t) (w : WellFormed t l) (j : 
   }
 
   pub laid-priors : linkedPrior t j ≡ 1 → Priors t (recordBytes t l) j
-  unfolding priorIn
+  unfolding priorRead
   laid-priors linked m top x e =
       let i = sym (elem-turned x m (l .ring j m)) ∙ (rw (ring-back m) at e) in
       let q = ring-there m top x i in

@@ -9,7 +9,7 @@ use lib.Dec.{ltb, leb}
 use borrow.Author.Tests.{ltb-true, ltb-false, leb-true}
 use Rattle.ledger.specs.Table.{pages, Accepted}
 use Rattle.ledger.specs.Pages.{pageOf, lineOf, Ledger, present, recordBytes, headNext, page, laid, Sound}
-use Rattle.ledger.specs.Image.{calcNextIn, ledgerOf, Paged}
+use Rattle.ledger.specs.Image.{calcNextRead, ledgerOf, Paged}
 use Rattle.ledger.specs.Audit.{Calced, Audited}
 use Rattle.ledger.proofs.Lists.Tests.{byCases, both}
 use Rattle.ledger.proofs.Lists.Members.{no-length}
@@ -26,8 +26,8 @@ use Rattle.ledger.proofs.Image.ReadBack.{read-back, laid-audited}
 
 -- heads that agree on the file's pages
 module _ (t : List ℕ) (r : ℕ → List ℕ) (h h′ : ℕ → ℕ) where
-  next-alike : (p : ℕ) → h p ≡ h′ p → calcNextIn t r h p ≡ calcNextIn t r h′ p
-  unfolding calcNextIn
+  next-alike : (p : ℕ) → h p ≡ h′ p → calcNextRead t r h p ≡ calcNextRead t r h′ p
+  unfolding calcNextRead
   next-alike p e = fun-ext (λ x. rw e)
 
   calced-alike : (p : ℕ) → h p ≡ h′ p → Calced t r h′ p → Calced t r h p

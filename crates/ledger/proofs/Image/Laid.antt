@@ -11,7 +11,7 @@ use borrow.Author.Tests.{lt-ltb}
 use Rattle.ledger.specs.Numbers.{run}
 use Rattle.ledger.specs.Table.{chains, calculated, inChain, linkedPrior, Accepted}
 use Rattle.ledger.specs.Pages.{Ledger, bytesOf, kindAt, bytesAt, present, homeOf, chainLinks, links, recordBytes, WellFormed, bytesWith, calcNext, nextOf, priorOf}
-use Rattle.ledger.specs.Image.{kindIn, dataIn, entryIn, homeIn, Paged}
+use Rattle.ledger.specs.Image.{kindRead, dataRead, entryRead, homeRead, Paged}
 use Rattle.ledger.specs.Bytes.{twoAt}
 use Rattle.ledger.proofs.Lists.Tests.{byCases}
 use Rattle.ledger.proofs.Lists.Digits.{Bytes, nil-bytes, append-bytes, digits-bytes, cond-bytes, concat-bytes}
@@ -39,7 +39,7 @@ module _ (t : List ℕ) (l : Ledger) (a : Accepted t) (w : WellFormed t l) where
       rw e (append-bytes (append-bytes (append-bytes (append-bytes (digits-bytes 2 _) (digits-bytes 2 _)) (digits-bytes 1 _))
       (record { small = w .placed x e .bytes })) (links-bytes t l (nextOf t l) (priorOf t l) (calcNext t l) x))
 
-  pub laid-kind : (x : ℕ) → kindIn (recordBytes t l x) ≡ kindAt l x
+  pub laid-kind : (x : ℕ) → kindRead (recordBytes t l x) ≡ kindAt l x
   laid-kind x = byCases (present l x)
       (λ e. own-fields t l a w x e .kind)
       (λ e. rw (absent-bytes t l x e, absent-kind (l .at x) e) (unfold twoAt in refl))
@@ -50,20 +50,20 @@ module _ (t : List ℕ) (l : Ledger) (a : Accepted t) (w : WellFormed t l) where
   pub laid-there : (x : ℕ) → present l x ≡ true → 0 < length (recordBytes t l x)
   laid-there x e = omega (arith, record-formed t l a w x e .long)
 
-  pub laid-data : (x : ℕ) → dataIn t (recordBytes t l x) ≡ bytesAt l x
+  pub laid-data : (x : ℕ) → dataRead t (recordBytes t l x) ≡ bytesAt l x
   laid-data x = byCases (present l x)
       (λ e. rw (laid-kind x) (own-fields t l a w x e .data-part))
       (λ e. rw (absent-bytes t l x e, absent-none (l .at x) e, take-nil) (unfold bytesOf in refl))
 
-  pub laid-entry : (x : ℕ) → entryIn t (recordBytes t l x) ≡ l .at x
+  pub laid-entry : (x : ℕ) → entryRead t (recordBytes t l x) ≡ l .at x
   laid-entry x = byCases (present l x)
       (λ e. entry-same _ (l .at x) (entry-there t (recordBytes t l x) ∙ lt-ltb _ _ (laid-there x e)) e
       (entry-kind t (recordBytes t l x) ∙ laid-kind x)
       (entry-bytes t (recordBytes t l x) ∙ laid-data x))
-      (λ e. rw (absent-bytes t l x e, absent-none (l .at x) e) (unfold entryIn in refl))
+      (λ e. rw (absent-bytes t l x e, absent-none (l .at x) e) (unfold entryRead in refl))
 
-  pub laid-home : (x : ℕ) → homeIn t (recordBytes t l x) ≡ homeOf t l x
-  unfolding homeIn homeOf
+  pub laid-home : (x : ℕ) → homeRead t (recordBytes t l x) ≡ homeOf t l x
+  unfolding homeRead homeOf
   laid-home x = rw (laid-data x, laid-kind x)
 
   pub laid-paged : Paged t (recordBytes t l)

@@ -12,34 +12,34 @@ use Rattle.ledger.specs.Numbers.{elem}
 use Rattle.ledger.specs.Table.{pages, chains, row, dataLen, isMaster, isDetail, Accepted}
 use Rattle.ledger.specs.Pages.{kindOf, bytesOf, isSome, kindAt, bytesAt, present, codes, homeOf, Placed}
 use Rattle.ledger.specs.Bytes.{twoAt}
-use Rattle.ledger.specs.Image.{kindIn, dataIn, entryIn, detailIn, masterIn, ringIn, homeIn, calcIn, ledgerOf, Paged}
+use Rattle.ledger.specs.Image.{kindRead, dataRead, entryRead, detailRead, masterRead, ringRead, homeRead, calcRead, ledgerOf, Paged}
 use Rattle.ledger.proofs.Lists.Parts.{part-bytes}
 use Rattle.ledger.proofs.Ledger.Rows.{size-least, code-listed}
 
 -- the entry of bytes
 module _ (t : List ℕ) where
-  pub entry-kind : (b : List ℕ) → kindOf (entryIn t b) ≡ kindIn b
-  unfolding entryIn kindOf twoAt
+  pub entry-kind : (b : List ℕ) → kindOf (entryRead t b) ≡ kindRead b
+  unfolding entryRead kindOf twoAt
   entry-kind [] = refl
   entry-kind (b ∷ bs) = refl
 
-  pub entry-bytes : (b : List ℕ) → bytesOf (entryIn t b) ≡ dataIn t b
-  unfolding entryIn bytesOf
+  pub entry-bytes : (b : List ℕ) → bytesOf (entryRead t b) ≡ dataRead t b
+  unfolding entryRead bytesOf
   entry-bytes [] = rw take-nil
   entry-bytes (b ∷ bs) = refl
 
-  pub entry-there : (b : List ℕ) → isSome (entryIn t b) ≡ ltb 0 (length b)
-  unfolding entryIn isSome
+  pub entry-there : (b : List ℕ) → isSome (entryRead t b) ≡ ltb 0 (length b)
+  unfolding entryRead isSome
   entry-there [] = refl
   entry-there (b ∷ bs) = sym (lt-ltb 0 (length (b ∷ bs)) (omega arith))
 
 -- what the ledger of an image has at a code
 module _ (t : List ℕ) (r : ℕ → List ℕ) (h : ℕ → ℕ) where
-  pub image-kind : (x : ℕ) → kindAt (ledgerOf t r h) x ≡ kindIn (r x)
+  pub image-kind : (x : ℕ) → kindAt (ledgerOf t r h) x ≡ kindRead (r x)
   unfolding ledgerOf
   image-kind x = entry-kind t (r x)
 
-  pub image-bytes : (x : ℕ) → bytesAt (ledgerOf t r h) x ≡ dataIn t (r x)
+  pub image-bytes : (x : ℕ) → bytesAt (ledgerOf t r h) x ≡ dataRead t (r x)
   unfolding ledgerOf
   image-bytes x = entry-bytes t (r x)
 
@@ -47,16 +47,16 @@ module _ (t : List ℕ) (r : ℕ → List ℕ) (h : ℕ → ℕ) where
   unfolding ledgerOf
   image-there x = entry-there t (r x)
 
-  pub image-master : (j x : ℕ) → isMaster t j (kindAt (ledgerOf t r h) x) ≡ masterIn t r j x
-  unfolding masterIn
+  pub image-master : (j x : ℕ) → isMaster t j (kindAt (ledgerOf t r h) x) ≡ masterRead t r j x
+  unfolding masterRead
   image-master j x = rw (image-kind x)
 
-  pub image-detail : (j x : ℕ) → isDetail t j (kindAt (ledgerOf t r h) x) ≡ detailIn t r j x
-  unfolding detailIn
+  pub image-detail : (j x : ℕ) → isDetail t j (kindAt (ledgerOf t r h) x) ≡ detailRead t r j x
+  unfolding detailRead
   image-detail j x = rw (image-kind x)
 
-  pub image-home : (x : ℕ) → homeOf t (ledgerOf t r h) x ≡ homeIn t (r x)
-  unfolding homeOf homeIn
+  pub image-home : (x : ℕ) → homeOf t (ledgerOf t r h) x ≡ homeRead t (r x)
+  unfolding homeOf homeRead
   image-home x = rw (image-kind x, image-bytes x)
 
   pub there-some : (x : ℕ) → present (ledgerOf t r h) x ≡ true → 0 < length (r x)
@@ -65,7 +65,7 @@ module _ (t : List ℕ) (r : ℕ → List ℕ) (h : ℕ → ℕ) where
   pub some-there : (x : ℕ) → 0 < length (r x) → present (ledgerOf t r h) x ≡ true
   some-there x e = image-there x ∙ lt-ltb _ _ e
 
-  pub image-ring : (j m : ℕ) → j < chains t → ledgerOf t r h .ring j m ≡ ringIn t r j m
+  pub image-ring : (j m : ℕ) → j < chains t → ledgerOf t r h .ring j m ≡ ringRead t r j m
   unfolding ledgerOf
   image-ring j m lt = rw (lt-ltb j (chains t) lt)
 
@@ -73,7 +73,7 @@ module _ (t : List ℕ) (r : ℕ → List ℕ) (h : ℕ → ℕ) where
   unfolding ledgerOf
   image-ring-out j m e = rw e
 
-  pub image-calc : (p : ℕ) → 1 ≤ p → p ≤ pages t → ledgerOf t r h .calc p ≡ calcIn t r h p (64 * p)
+  pub image-calc : (p : ℕ) → 1 ≤ p → p ≤ pages t → ledgerOf t r h .calc p ≡ calcRead t r h p (64 * p)
   unfolding ledgerOf
   image-calc p lo hi = rw (le-leb 1 p lo, le-leb p (pages t) hi)
 
@@ -85,14 +85,14 @@ module _ (t : List ℕ) (r : ℕ → List ℕ) (h : ℕ → ℕ) where
   pub image-placed : Paged t r → (x : ℕ) → present (ledgerOf t r h) x ≡ true → Placed t (ledgerOf t r h) x
   image-placed g x e =
       let s = g .standing x (there-some x e) in
-      let fits = size-least t (kindIn (r x)) in
-      let all : 5 + dataLen t (row t (kindIn (r x))) ≤ length (r x) = omega (arith, s .whole) in record {
+      let fits = size-least t (kindRead (r x)) in
+      let all : 5 + dataLen t (row t (kindRead (r x))) ≤ length (r x) = omega (arith, s .whole) in record {
         typed = rw (image-kind x) (s .typed);
         low-page = rw (image-kind x) (s .low-page);
         high-page = rw (image-kind x) (s .high-page);
         on-a-line = s .on-a-line;
         full = rw (image-bytes x, image-kind x) (length-take-le _ (drop 5 (r x)) (rw length-drop (omega arith)));
-        bytes = λ i. rw (image-bytes x) (part-bytes (r x) 5 (dataLen t (row t (kindIn (r x)))) (s .bytes) i);
+        bytes = λ i. rw (image-bytes x) (part-bytes (r x) 5 (dataLen t (row t (kindRead (r x)))) (s .bytes) i);
       }
 
 -- a record's code is one of the file's

@@ -13,7 +13,7 @@ use Rattle.ledger.specs.Numbers.{elem}
 use Rattle.ledger.specs.Table.{pages, chains, Accepted}
 use Rattle.ledger.specs.Pages.{Ledger, laid, recordBytes, headNext, layout, WellFormed, Sound}
 use Rattle.ledger.specs.Bytes.{Fields}
-use Rattle.ledger.specs.Image.{kindIn, nextIn, priorIn, homeIn, ledgerOf}
+use Rattle.ledger.specs.Image.{kindRead, nextRead, priorRead, homeRead, ledgerOf}
 use Rattle.ledger.specs.Audit.{Audited}
 use Rattle.ledger.proofs.Lists.Tests.{byCases, clash, both}
 use Rattle.ledger.proofs.Lists.Members.{elem-nil, no-members, no-length}
@@ -31,12 +31,12 @@ use Rattle.ledger.proofs.Image.CalcRings.{homed, to-home, image-calc-on
 use Rattle.ledger.proofs.Image.Retold.{fields-bytes}
 
 module _ (t : List ℕ) (r : ℕ → List ℕ) (h : ℕ → ℕ) (a : Accepted t) (s : Audited t r h) where
-  home-in : (x : ℕ) → 0 < length (r x) → (1 ≤ homeIn t (r x)) × (homeIn t (r x) ≤ pages t)
-  unfolding homeIn
-  home-in x full = home-within t (kindIn (r x)) _ a (s .paged .standing x full .typed)
+  home-in : (x : ℕ) → 0 < length (r x) → (1 ≤ homeRead t (r x)) × (homeRead t (r x) ≤ pages t)
+  unfolding homeRead
+  home-in x full = home-within t (kindRead (r x)) _ a (s .paged .standing x full .typed)
 
   image-fields : (x : ℕ) → 0 < length (r x) → Fields t (ledgerOf t r h) x (r x) 0
-  unfolding nextIn priorIn
+  unfolding nextRead priorRead
   image-fields x full =
       let st = s .paged .standing x full in
       let k = image-kind t r h x in

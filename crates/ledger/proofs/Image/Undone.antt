@@ -8,7 +8,7 @@ use Rattle.ledger.specs.Numbers.{elem, once, headOr, lastOr, follower}
 use Rattle.ledger.specs.Table.{chains, isMaster, inChain, Accepted}
 use Rattle.ledger.specs.Pages.{round}
 use Rattle.ledger.specs.Walks.{Agrees}
-use Rattle.ledger.specs.Image.{kindIn, detailIn, masterIn, nextIn, priorIn, ringIn, Paged}
+use Rattle.ledger.specs.Image.{kindRead, detailRead, masterRead, nextRead, priorRead, ringRead, Paged}
 use Rattle.ledger.specs.Audit.{Ringed, Priors}
 use Rattle.ledger.proofs.Lists.Tests.{clash, not-true-false}
 use Rattle.ledger.proofs.Lists.Members.{elem-cases, split-at-member, elem-turned}
@@ -51,22 +51,22 @@ module _ (m : ℕ) (xs : List ℕ) (ones : once xs ≡ true) (off : elem m xs �
 
 -- A chain of an image whose rings NEXT tells.
 module _ (t : List ℕ) (r : ℕ → List ℕ) (a : Accepted t) (g : Paged t r) (j : ℕ) (within : j < chains t) (s : Ringed t r j) where
-  not-own : (m : ℕ) → elem m (ringIn t r j m) ≡ false
+  not-own : (m : ℕ) → elem m (ringRead t r j m) ≡ false
   not-own m = not-true-false _ (λ e. let o = s .rings .own m m e in clash _ (o .1) (apart t r a g j within m (o .0)))
 
-  chain-member : (m : ℕ) → masterIn t r j m ≡ true → (x : ℕ) → elem x (m ∷ ringIn t r j m) ≡ true → inChain t j (kindIn (r x)) ≡ true
-  unfolding inChain masterIn detailIn
-  chain-member m top x e = elim (elem-cases x m (ringIn t r j m) e) [
+  chain-member : (m : ℕ) → masterRead t r j m ≡ true → (x : ℕ) → elem x (m ∷ ringRead t r j m) ≡ true → inChain t j (kindRead (r x)) ≡ true
+  unfolding inChain masterRead detailRead
+  chain-member m top x e = elim (elem-cases x m (ringRead t r j m) e) [
     | inl i ↦ rw (i, top)
-    | inr i ↦ rw (s .rings .own m x i .1) (or-true (isMaster t j (kindIn (r x))))
+    | inr i ↦ rw (s .rings .own m x i .1) (or-true (isMaster t j (kindRead (r x))))
   ]
 
-  pub priors-exactly : Priors t r j ↔ ((x : ℕ) → inChain t j (kindIn (r x)) ≡ true → priorIn t r j (nextIn t r j x) ≡ x)
+  pub priors-exactly : Priors t r j ↔ ((x : ℕ) → inChain t j (kindRead (r x)) ≡ true → priorRead t r j (nextRead t r j x) ≡ x)
   priors-exactly = (
     λ b x c.
         let (m, top, e) = in-a-ring t r a g j within (λ p. 0) s x c in
-        undone-exactly m (ringIn t r j m) (s .rings .ones m) (not-own m) (nextIn t r j) (priorIn t r j) (s .nexts m top) .0 (b m top) x e,
+        undone-exactly m (ringRead t r j m) (s .rings .ones m) (not-own m) (nextRead t r j) (priorRead t r j) (s .nexts m top) .0 (b m top) x e,
     λ b m top.
-        undone-exactly m (ringIn t r j m) (s .rings .ones m) (not-own m) (nextIn t r j) (priorIn t r j) (s .nexts m top) .1
+        undone-exactly m (ringRead t r j m) (s .rings .ones m) (not-own m) (nextRead t r j) (priorRead t r j) (s .nexts m top) .1
         (λ x e. b x (chain-member m top x e)),
   )
