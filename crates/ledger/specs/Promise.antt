@@ -2,11 +2,13 @@
 -- of file and output, refused or done. `f` and `o` are file and output before the call, `f′` and `o′` after it; `r` is what it returns.
 use Prim.Native.Nat.{ℕ, _*_}
 use mathlib.Core.Path.{_≡_}
-use mathlib.Core.List.{List, _++_}
+use mathlib.Core.Bool.{true}
+use mathlib.Core.List.{List, _∷_, _++_}
 use lib.ListN.{length, drop}
 use Rattle.ledger.specs.declared.Answer.{Answer}
 use Rattle.ledger.specs.declared.Currency.{Currency}
 use Rattle.ledger.specs.declared.Outcome.{Outcome}
+use Rattle.ledger.specs.Numbers.{elem}
 use Rattle.ledger.specs.Table.{pages, Accepted}
 use Rattle.ledger.specs.Pages.{Ledger, empty, bytesAt, Sound}
 use Rattle.ledger.specs.Answers.{doneWith, refusedWith, outcome, refusal}
@@ -18,6 +20,11 @@ pub record Refused (n : ℕ) (f f′ : List ℕ) (cur : Currency) (r : Outcome) 
   pub answered : r .answer ≡ refusedWith n
   pub same-currency : r .currency ≡ cur
   pub same-file : f′ ≡ f
+
+-- demand 1: a call comes back done, or with one of its refusals and nothing changed
+pub record ComesBack (numbers : List ℕ) (f f′ : List ℕ) (cur : Currency) (r : Outcome) : Type 0 where
+  pub number : elem (r .answer .code) (0 ∷ numbers) ≡ true
+  pub unchanged : (r .answer .code ≡ 0 → ⊥) → Refused (r .answer .code) f f′ cur r
 
 -- a call on a file: refusals 1 to 4 exactly when, then what the call on the file's ledger says
 pub record Plays (call : Ledger → Turn) (t f f′ : List ℕ) (cur : Currency) (r : Outcome) : Type 0 where
