@@ -1,4 +1,4 @@
--- What is read and written in any bytes.
+-- What each function on pages computes on bytes.
 pub mod Reads
 pub mod Keys
 pub mod Room

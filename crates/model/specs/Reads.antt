@@ -25,7 +25,7 @@ placeIn f c =
     (cond (ltb (length f) (pageStart (pageOf c) + 512)) 0
     (cond (eqb o 0) 0 (pageStart (pageOf c) + o)))
 
--- page p, or no bytes for page 0
+-- page p, as far as the file has it; no bytes for page 0
 unfoldable pub pageIn : List ℕ → ℕ → List ℕ
 pageIn f p = cond (eqb p 0) [] (part (pageStart p) 512 f)
 
@@ -54,6 +54,6 @@ calcNextIn t f c = linkFrom f (placeIn f c) (calcAt t (kindIn f c))
 unfoldable pub headNextIn : List ℕ → ℕ → ℕ
 headNextIn f p = cond (eqb p 0) 0 (threeAt f (pageStart p + 13))
 
--- its data
+-- the data of record c
 unfoldable pub dataIn : List ℕ → List ℕ → ℕ → List ℕ
 dataIn t f c = cond (eqb (placeIn f c) 0) [] (part (placeIn f c + 5) (dataLen t (row t (kindIn f c))) f)

@@ -1,0 +1,2 @@
+-- What the audit has to do with sound files.
+pub mod Scan

@@ -1,0 +1,2 @@
+-- What each function of the audit computes on bytes.
+pub mod Scan
