@@ -1,0 +1,1 @@
+// What walks in rings compute on bytes: definitions, no code.
