@@ -1,10 +1,10 @@
 // A record put into its page or taken out, through a second page of scratch; and a fresh page.
-use page::bytes;
 use crate::copies;
+use model::Gap;
+use page::bytes;
 use page::lookup;
 use page::room;
 use page::writes;
-use model::Gap;
 ghost use mathlib.Core.Path.{_≡_};
 ghost use Prim.Native.Nat.{_+_, _%_, _^_};
 ghost use Rattle.ledger.specs.Bytes.{twoAt};

@@ -31,8 +31,8 @@ pub counts-put : (f : List ℕ) (free flags : ℕ) → 13 ≤ length f → count
 unfolding countsPut flagsPut twoPut fielded digits
 counts-put f free flags h =
     let bytes : List ℕ = free / 256 % 256 ∷ free % 256
-      ∷ flags / 65536 / 65536 / 65536 / 256 % 256 ∷ flags / 65536 / 65536 / 65536 % 256
-      ∷ flags / 65536 / 65536 % 65536 / 256 % 256 ∷ flags / 65536 / 65536 % 65536 % 256
-      ∷ flags / 65536 % 65536 / 256 % 256 ∷ flags / 65536 % 65536 % 256
-      ∷ flags % 65536 / 256 % 256 ∷ flags % 65536 % 256 ∷ [] in
+    ∷ flags / 65536 / 65536 / 65536 / 256 % 256 ∷ flags / 65536 / 65536 / 65536 % 256
+    ∷ flags / 65536 / 65536 % 65536 / 256 % 256 ∷ flags / 65536 / 65536 % 65536 % 256
+    ∷ flags / 65536 % 65536 / 256 % 256 ∷ flags / 65536 % 65536 % 256
+    ∷ flags % 65536 / 256 % 256 ∷ flags % 65536 % 256 ∷ [] in
     sets-eq bytes f 3 h ∙ simp (high-byte, low-byte, by-two, append-assoc)
