@@ -1,0 +1,4 @@
+pub mod Placing
+pub mod Storing
+pub mod Relinking
+pub mod Modifying

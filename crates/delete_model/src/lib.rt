@@ -1,0 +1,1 @@
+// What a deletion computes on bytes: definitions, no code.

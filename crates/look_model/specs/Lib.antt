@@ -1,0 +1,2 @@
+pub mod Currencies
+pub mod Looks

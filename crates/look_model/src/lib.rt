@@ -1,0 +1,1 @@
+// What the currency and the calls that read compute on bytes: definitions, no code.

@@ -1,0 +1,1 @@
+// What the public calls compute on bytes: definitions and their laws, no code.
