@@ -1,5 +1,4 @@
 -- The laws behind the three calls' functions: one for each way out and each turn of a loop.
-pub mod Entries
 pub mod Details
 pub mod Placing
 pub mod Storing

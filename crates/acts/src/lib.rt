@@ -1,5 +1,4 @@
 // STORE, RELINK and MODIFY: each decided on a shared file, and carried out on a mutable one.
-mod entries;
 pub mod modifying;
 pub mod placing;
 pub mod relinking;

@@ -1,5 +1,5 @@
 // Where STORE places a record.
-use crate::entries;
+use looks::currency;
 use ledger::Currency;
 use page::fields;
 use page::room;
@@ -15,8 +15,7 @@ ghost use Rattle.act_model.specs.Placing.{occurrenceIn, inRange, basePageIn, ta
 pub fn occurrence(table: &[u16], file: &[u8], cur: Currency, j: u16) -> u32
     ensures { λ r. ⌜ r ≡ occurrenceIn (now (table .entry)) (now (file .entry)) cur j ⌝ }
 {
-    let chains = cur.chains;
-    rings::master_of(table, file, j, entries::chain_current(chains, j))
+    rings::master_of(table, file, j, currency::chain_current(cur, j))
 }
 
 // A page where it is in the type's range, else the type's lowest.
@@ -43,8 +42,7 @@ fn base_page(table: &[u16], file: &[u8], cur: Currency, kind: u16, data: &[u8]) 
         let via = words::kind_word(table, kind, words::VIA);
         return page_in_range(table, kind, occurrence(table, file, cur, via) / 64);
     }
-    let types = cur.types;
-    let current = entries::type_current(table, types, kind);
+    let current = currency::type_current(table, cur, kind);
     if current == 0 {
         return words::kind_word(table, kind, words::LOW_PAGE) as u32;
     }

@@ -1,5 +1,5 @@
 // STORE: decided on a shared file, then carried out.
-use crate::entries;
+use looks::currency;
 use crate::placing;
 use change::links;
 use change::moves;
@@ -29,8 +29,7 @@ fn lacks_in(table: &[u16], cur: Currency, kind: u16, j: u16) -> bool
     if !words::is_detail(table, j, kind) {
         return false;
     }
-    let chains = cur.chains;
-    let current = entries::chain_current(chains, j);
+    let current = currency::chain_current(cur, j);
     current == 0
 }
 
