@@ -1,6 +1,6 @@
 // Where STORE places a record.
-use looks::currency;
 use ledger::Currency;
+use looks::currency;
 use page::fields;
 use page::room;
 use table::keys;

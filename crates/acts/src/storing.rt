@@ -1,10 +1,10 @@
 // STORE: decided on a shared file, then carried out.
-use looks::currency;
 use crate::placing;
 use change::links;
 use change::moves;
 use ledger::Answer;
 use ledger::Currency;
+use looks::currency;
 use model::Between;
 use model::Gap;
 use model::Places;

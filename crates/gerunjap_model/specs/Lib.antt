@@ -1,0 +1,2 @@
+-- What the C interface does to lent memory.
+pub mod Lent

@@ -1,0 +1,1 @@
+// What the C interface does to lent memory: definitions, no code.

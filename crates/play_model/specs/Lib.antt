@@ -1,0 +1,2 @@
+-- What a frame of a call does.
+pub mod Plays

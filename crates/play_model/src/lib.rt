@@ -1,0 +1,1 @@
+// What a frame of a call does: definitions, no code.
