@@ -4,9 +4,10 @@ Sessions are drawn and played on lent bytes. Now and then the file, its size, th
 the table or the output is spoiled before a call, or the currency is set by hand. Answer,
 file, currency and output are compared after every call.
 
-    python3 tests/interface.py [--calls 20000] [--seed 2] [--library LIB.so]
+    python3 tests/interface.py [--calls 20000] [--seed 2] [--library LIB.so] [--damaged]
 
 Without --library the shared object is made from the archive that `rt staticlib gerunjap` writes.
+With --damaged each turn is followed by calls on damaged copies of the file, and --calls counts those.
 """
 
 import argparse
@@ -28,6 +29,7 @@ import table as tables  # noqa: E402
 
 ENTRIES = 33
 SESSION = 60
+DAMAGED = 10
 # The refusals that each call can give, beside 1 to 4 of every call but FORMAT.
 OWN = {
     1: (5, 6, 8, 10, 11), 2: (9,), 3: (5, 7, 8, 9), 4: (5, 6), 5: (5, 6), 6: (5, 6), 7: (9,),
@@ -112,6 +114,14 @@ class Game:
             self.file, self.currency = self.compare(self.words, self.file, self.currency)
         else:
             self.compare(draw.broken_table(self.rng), self.file, self.currency)
+
+    def damaged_turns(self):
+        """Calls on damaged copies of the state; how many."""
+        ledger = layout.read(self.shape, self.file)
+        self.hand = draw.Hand(self.rng, self.shape, ledger, self.currency, self.alphabet)
+        for _ in range(DAMAGED):
+            self.compare(self.words, self.damaged(ledger), self.currency)
+        return DAMAGED
 
     def relink_twin(self, ledger):
         """RELINK of a record to a master that has its twin, which random calls seldom meet."""
@@ -206,17 +216,22 @@ def main():
     options.add_argument("--library")
     options.add_argument("--calls", type=int, default=20000)
     options.add_argument("--seed", type=int, default=2)
+    options.add_argument("--damaged", action="store_true")
     asked = options.parse_args()
     rng, seen = random.Random(asked.seed), collections.Counter()
     library = Library(asked.library or made())
     ill_made(rng, library)
-    while sum(seen.values()) < asked.calls:
+    damaged = 0
+    while (damaged if asked.damaged else sum(seen.values())) < asked.calls:
         game = Game(rng, library, seen)
         for _ in range(SESSION):
             game.turn()
+            damaged += game.damaged_turns() if asked.damaged else 0
     lacking = missing(seen)
     for call, code in lacking:
         print(f"never met: call {call:02X} with {code}")
+    if asked.damaged:
+        print(f"interface: {damaged} calls on damaged files, {sum(n for (_, code), n in seen.items() if code == 3)} refused with 3")
     print(f"interface: {sum(seen.values())} calls, {len(seen)} pairs of call and code, "
           + ("no difference" if not lacking else f"{len(lacking)} pairs never met"))
     sys.exit(1 if lacking else 0)

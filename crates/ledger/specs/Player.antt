@@ -3,11 +3,13 @@ use Prim.Native.Nat.{ℕ, _+_, _*_, _-_, _/_, _%_}
 use mathlib.Core.Bool.{Bool, false, cond, not, _&&_, _||_}
 use mathlib.Core.List.{List, [], _∷_, _++_}
 use mathlib.Core.Option.{Option, none, some, Option·map, Option·getD}
-use lib.ListN.{length, getD}
+use lib.ListN.{length, getD, drop}
 use lib.Dec.{eqb, ltb, leb}
 use Rattle.ledger.specs.declared.Answer.{Answer}
 use Rattle.ledger.specs.Numbers.{digits, elem, keep, concatOf}
 use Rattle.ledger.specs.Rules.{between}
+use Rattle.ledger.specs.Bytes.{twoAt, threeAt}
+use Rattle.ledger.specs.Calls.{Call, FORMAT, STORE, DIRECT, KEY, NEXT, PRIOR, MASTER, EACH, MODIFY, DELETE, READ, CURRENT, FIND, RELINK, UNKNOWN}
 
 -- the value of a hexadecimal digit in either case, 0 to 9, A to F, a to f; 16 for any other character
 unfoldable pub digitValue : ℕ → ℕ
@@ -45,6 +47,27 @@ rightCount call n = cond (isOpen call) (leb (fewest call) n) (eqb n (fewest call
 unfoldable pub callMade : List ℕ → Bool
 callMade [] = false
 callMade (call ∷ args) = rightCount call (length args)
+
+-- the call in a frame, its first byte the call's number; `room` is the length of READ's output
+unfoldable pub callIn : List ℕ → ℕ → Call
+callIn fr room =
+    let call = getD fr 0 0 in
+    let chain = getD fr 1 0 in
+    cond (eqb call 0) FORMAT
+    (cond (eqb call 1) (STORE (twoAt fr 1) (drop 3 fr))
+    (cond (eqb call 2) (DIRECT (threeAt fr 1))
+    (cond (eqb call 3) (KEY (twoAt fr 1) (drop 3 fr))
+    (cond (eqb call 4) (NEXT chain)
+    (cond (eqb call 5) (PRIOR chain)
+    (cond (eqb call 6) (MASTER chain)
+    (cond (eqb call 7) (EACH (threeAt fr 1) (threeAt fr 4))
+    (cond (eqb call 8) (MODIFY (drop 1 fr))
+    (cond (eqb call 9) DELETE
+    (cond (eqb call 10) (READ room)
+    (cond (eqb call 11) (CURRENT (twoAt fr 1))
+    (cond (eqb call 12) (FIND chain (drop 2 fr))
+    (cond (eqb call 13) (RELINK chain (threeAt fr 2))
+    UNKNOWN)))))))))))))
 
 -- a well-made frame of the player: frame 00 carries the table's words
 unfoldable pub wellMade : List ℕ → Bool

@@ -7,13 +7,15 @@ use ledger::Currency;
 use ledger::Outcome;
 ghost use mathlib.Core.Path.{_≡_};
 ghost use mathlib.Core.List.{[], _∷_};
-ghost use Rattle.ledger.specs.Promise.{ComesBack};
+ghost use Rattle.ledger.specs.Calls.{STORE, DIRECT, KEY, NEXT, PRIOR, MASTER, EACH, MODIFY, DELETE, CURRENT, FIND, RELINK, UNKNOWN};
+ghost use Rattle.ledger.specs.Promise.{ComesBack, Plays, Formats, Reads, turnOf};
 ghost use Rattle.store_model.specs.Calls.{formatCall, storeCall, directCall, keyCall, nextCall, priorCall, masterCall, eachCall, modifyCall, deleteCall, readCall, currentCall, findCall, relinkCall, unknownCall};
 
 // FORMAT: an empty file and all-zero currency.
 pub fn format(table: &[u16], file: &mut [u8], cur: Currency) -> Outcome
     ensures computed { λ r. ⌜ formatCall (now (table .entry)) (now (file .entry)) cur ≡ (r, now (file .exit)) ⌝ }
     ensures back { λ r. ⌜ ComesBack (1 ∷ 2 ∷ []) (now (file .entry)) (now (file .exit)) cur r ⌝ }
+    ensures formats { λ r. ⌜ Formats (now (table .entry)) (now (file .entry)) (now (file .exit)) cur r ⌝ }
 {
     let refused = checks::check_size(table, file);
     if refused != 0 {
@@ -27,6 +29,7 @@ pub fn format(table: &[u16], file: &mut [u8], cur: Currency) -> Outcome
 pub fn store(table: &[u16], file: &mut [u8], cur: Currency, kind: u16, data: &[u8]) -> Outcome
     ensures computed { λ r. ⌜ storeCall (now (table .entry)) (now (file .entry)) cur kind (now («data» .entry)) ≡ (r, now (file .exit)) ⌝ }
     ensures back { λ r. ⌜ ComesBack (1 ∷ 2 ∷ 3 ∷ 4 ∷ 5 ∷ 6 ∷ 8 ∷ 10 ∷ 11 ∷ []) (now (file .entry)) (now (file .exit)) cur r ⌝ }
+    ensures plays { λ r. ⌜ Plays (turnOf (now (table .entry)) cur (STORE kind (now («data» .entry)))) (now (table .entry)) (now (file .entry)) (now (file .exit)) cur r ⌝ }
 {
     let refused = checks::check(table, file, cur);
     if refused != 0 {
@@ -39,6 +42,7 @@ pub fn store(table: &[u16], file: &mut [u8], cur: Currency, kind: u16, data: &[u
 pub fn direct(table: &[u16], file: &[u8], cur: Currency, code: u32) -> Outcome
     ensures computed { λ r. ⌜ r ≡ directCall (now (table .entry)) (now (file .entry)) cur code ⌝ }
     ensures back { λ r. ⌜ ComesBack (1 ∷ 2 ∷ 3 ∷ 4 ∷ 9 ∷ []) (now (file .entry)) (now (file .entry)) cur r ⌝ }
+    ensures plays { λ r. ⌜ Plays (turnOf (now (table .entry)) cur (DIRECT code)) (now (table .entry)) (now (file .entry)) (now (file .entry)) cur r ⌝ }
 {
     let refused = checks::check(table, file, cur);
     if refused != 0 {
@@ -51,6 +55,7 @@ pub fn direct(table: &[u16], file: &[u8], cur: Currency, code: u32) -> Outcome
 pub fn key(table: &[u16], file: &[u8], cur: Currency, kind: u16, key: &[u8]) -> Outcome
     ensures computed { λ r. ⌜ r ≡ keyCall (now (table .entry)) (now (file .entry)) cur kind (now (key .entry)) ⌝ }
     ensures back { λ r. ⌜ ComesBack (1 ∷ 2 ∷ 3 ∷ 4 ∷ 5 ∷ 7 ∷ 8 ∷ 9 ∷ []) (now (file .entry)) (now (file .entry)) cur r ⌝ }
+    ensures plays { λ r. ⌜ Plays (turnOf (now (table .entry)) cur (KEY kind (now (key .entry)))) (now (table .entry)) (now (file .entry)) (now (file .entry)) cur r ⌝ }
 {
     let refused = checks::check(table, file, cur);
     if refused != 0 {
@@ -63,6 +68,7 @@ pub fn key(table: &[u16], file: &[u8], cur: Currency, kind: u16, key: &[u8]) -> 
 pub fn next(table: &[u16], file: &[u8], cur: Currency, j: u16) -> Outcome
     ensures computed { λ r. ⌜ r ≡ nextCall (now (table .entry)) (now (file .entry)) cur j ⌝ }
     ensures back { λ r. ⌜ ComesBack (1 ∷ 2 ∷ 3 ∷ 4 ∷ 5 ∷ 6 ∷ []) (now (file .entry)) (now (file .entry)) cur r ⌝ }
+    ensures plays { λ r. ⌜ Plays (turnOf (now (table .entry)) cur (NEXT j)) (now (table .entry)) (now (file .entry)) (now (file .entry)) cur r ⌝ }
 {
     let refused = checks::check(table, file, cur);
     if refused != 0 {
@@ -75,6 +81,7 @@ pub fn next(table: &[u16], file: &[u8], cur: Currency, j: u16) -> Outcome
 pub fn prior(table: &[u16], file: &[u8], cur: Currency, j: u16) -> Outcome
     ensures computed { λ r. ⌜ r ≡ priorCall (now (table .entry)) (now (file .entry)) cur j ⌝ }
     ensures back { λ r. ⌜ ComesBack (1 ∷ 2 ∷ 3 ∷ 4 ∷ 5 ∷ 6 ∷ []) (now (file .entry)) (now (file .entry)) cur r ⌝ }
+    ensures plays { λ r. ⌜ Plays (turnOf (now (table .entry)) cur (PRIOR j)) (now (table .entry)) (now (file .entry)) (now (file .entry)) cur r ⌝ }
 {
     let refused = checks::check(table, file, cur);
     if refused != 0 {
@@ -87,6 +94,7 @@ pub fn prior(table: &[u16], file: &[u8], cur: Currency, j: u16) -> Outcome
 pub fn master(table: &[u16], file: &[u8], cur: Currency, j: u16) -> Outcome
     ensures computed { λ r. ⌜ r ≡ masterCall (now (table .entry)) (now (file .entry)) cur j ⌝ }
     ensures back { λ r. ⌜ ComesBack (1 ∷ 2 ∷ 3 ∷ 4 ∷ 5 ∷ 6 ∷ []) (now (file .entry)) (now (file .entry)) cur r ⌝ }
+    ensures plays { λ r. ⌜ Plays (turnOf (now (table .entry)) cur (MASTER j)) (now (table .entry)) (now (file .entry)) (now (file .entry)) cur r ⌝ }
 {
     let refused = checks::check(table, file, cur);
     if refused != 0 {
@@ -99,6 +107,7 @@ pub fn master(table: &[u16], file: &[u8], cur: Currency, j: u16) -> Outcome
 pub fn each(table: &[u16], file: &[u8], cur: Currency, first: u32, last: u32) -> Outcome
     ensures computed { λ r. ⌜ r ≡ eachCall (now (table .entry)) (now (file .entry)) cur first last ⌝ }
     ensures back { λ r. ⌜ ComesBack (1 ∷ 2 ∷ 3 ∷ 4 ∷ 9 ∷ []) (now (file .entry)) (now (file .entry)) cur r ⌝ }
+    ensures plays { λ r. ⌜ Plays (turnOf (now (table .entry)) cur (EACH first last)) (now (table .entry)) (now (file .entry)) (now (file .entry)) cur r ⌝ }
 {
     let refused = checks::check(table, file, cur);
     if refused != 0 {
@@ -111,6 +120,7 @@ pub fn each(table: &[u16], file: &[u8], cur: Currency, first: u32, last: u32) ->
 pub fn modify(table: &[u16], file: &mut [u8], cur: Currency, data: &[u8]) -> Outcome
     ensures computed { λ r. ⌜ modifyCall (now (table .entry)) (now (file .entry)) cur (now («data» .entry)) ≡ (r, now (file .exit)) ⌝ }
     ensures back { λ r. ⌜ ComesBack (1 ∷ 2 ∷ 3 ∷ 4 ∷ 6 ∷ 8 ∷ 10 ∷ []) (now (file .entry)) (now (file .exit)) cur r ⌝ }
+    ensures plays { λ r. ⌜ Plays (turnOf (now (table .entry)) cur (MODIFY (now («data» .entry)))) (now (table .entry)) (now (file .entry)) (now (file .exit)) cur r ⌝ }
 {
     let refused = checks::check(table, file, cur);
     if refused != 0 {
@@ -123,6 +133,7 @@ pub fn modify(table: &[u16], file: &mut [u8], cur: Currency, data: &[u8]) -> Out
 pub fn delete(table: &[u16], file: &mut [u8], cur: Currency) -> Outcome
     ensures computed { λ r. ⌜ deleteCall (now (table .entry)) (now (file .entry)) cur ≡ (r, now (file .exit)) ⌝ }
     ensures back { λ r. ⌜ ComesBack (1 ∷ 2 ∷ 3 ∷ 4 ∷ 6 ∷ []) (now (file .entry)) (now (file .exit)) cur r ⌝ }
+    ensures plays { λ r. ⌜ Plays (turnOf (now (table .entry)) cur DELETE) (now (table .entry)) (now (file .entry)) (now (file .exit)) cur r ⌝ }
 {
     let refused = checks::check(table, file, cur);
     if refused != 0 {
@@ -135,6 +146,7 @@ pub fn delete(table: &[u16], file: &mut [u8], cur: Currency) -> Outcome
 pub fn read(table: &[u16], file: &[u8], cur: Currency, output: &mut [u8]) -> Outcome
     ensures computed { λ r. ⌜ readCall (now (table .entry)) (now (file .entry)) cur (now (output .entry)) ≡ (r, now (output .exit)) ⌝ }
     ensures back { λ r. ⌜ ComesBack (1 ∷ 2 ∷ 3 ∷ 4 ∷ 6 ∷ 12 ∷ []) (now (output .entry)) (now (output .exit)) cur r ⌝ }
+    ensures reads { λ r. ⌜ Reads (now (table .entry)) (now (file .entry)) (now (output .entry)) (now (output .exit)) cur r ⌝ }
 {
     let refused = checks::check(table, file, cur);
     if refused != 0 {
@@ -147,6 +159,7 @@ pub fn read(table: &[u16], file: &[u8], cur: Currency, output: &mut [u8]) -> Out
 pub fn current(table: &[u16], file: &[u8], cur: Currency, kind: u16) -> Outcome
     ensures computed { λ r. ⌜ r ≡ currentCall (now (table .entry)) (now (file .entry)) cur kind ⌝ }
     ensures back { λ r. ⌜ ComesBack (1 ∷ 2 ∷ 3 ∷ 4 ∷ 5 ∷ 6 ∷ []) (now (file .entry)) (now (file .entry)) cur r ⌝ }
+    ensures plays { λ r. ⌜ Plays (turnOf (now (table .entry)) cur (CURRENT kind)) (now (table .entry)) (now (file .entry)) (now (file .entry)) cur r ⌝ }
 {
     let refused = checks::check(table, file, cur);
     if refused != 0 {
@@ -159,6 +172,7 @@ pub fn current(table: &[u16], file: &[u8], cur: Currency, kind: u16) -> Outcome
 pub fn find(table: &[u16], file: &[u8], cur: Currency, j: u16, key: &[u8]) -> Outcome
     ensures computed { λ r. ⌜ r ≡ findCall (now (table .entry)) (now (file .entry)) cur j (now (key .entry)) ⌝ }
     ensures back { λ r. ⌜ ComesBack (1 ∷ 2 ∷ 3 ∷ 4 ∷ 5 ∷ 6 ∷ 7 ∷ 8 ∷ 9 ∷ []) (now (file .entry)) (now (file .entry)) cur r ⌝ }
+    ensures plays { λ r. ⌜ Plays (turnOf (now (table .entry)) cur (FIND j (now (key .entry)))) (now (table .entry)) (now (file .entry)) (now (file .entry)) cur r ⌝ }
 {
     let refused = checks::check(table, file, cur);
     if refused != 0 {
@@ -171,6 +185,7 @@ pub fn find(table: &[u16], file: &[u8], cur: Currency, j: u16, key: &[u8]) -> Ou
 pub fn relink(table: &[u16], file: &mut [u8], cur: Currency, j: u16, m: u32) -> Outcome
     ensures computed { λ r. ⌜ relinkCall (now (table .entry)) (now (file .entry)) cur j m ≡ (r, now (file .exit)) ⌝ }
     ensures back { λ r. ⌜ ComesBack (1 ∷ 2 ∷ 3 ∷ 4 ∷ 5 ∷ 6 ∷ 7 ∷ 9 ∷ 10 ∷ []) (now (file .entry)) (now (file .exit)) cur r ⌝ }
+    ensures plays { λ r. ⌜ Plays (turnOf (now (table .entry)) cur (RELINK j m)) (now (table .entry)) (now (file .entry)) (now (file .exit)) cur r ⌝ }
 {
     let refused = checks::check(table, file, cur);
     if refused != 0 {
@@ -183,6 +198,7 @@ pub fn relink(table: &[u16], file: &mut [u8], cur: Currency, j: u16, m: u32) -> 
 pub fn unknown(table: &[u16], file: &[u8], cur: Currency) -> Outcome
     ensures computed { λ r. ⌜ r ≡ unknownCall (now (table .entry)) (now (file .entry)) cur ⌝ }
     ensures back { λ r. ⌜ ComesBack (1 ∷ 2 ∷ 3 ∷ 4 ∷ 5 ∷ []) (now (file .entry)) (now (file .entry)) cur r ⌝ }
+    ensures plays { λ r. ⌜ Plays (turnOf (now (table .entry)) cur UNKNOWN) (now (table .entry)) (now (file .entry)) (now (file .entry)) cur r ⌝ }
 {
     let refused = checks::check(table, file, cur);
     if refused != 0 {

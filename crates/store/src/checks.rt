@@ -7,11 +7,13 @@ use page::lookup;
 use table::rules;
 use table::words;
 ghost use mathlib.Core.Path.{_≡_};
+ghost use Rattle.ledger.specs.Promise.{Checks, ChecksSize};
 ghost use Rattle.store_model.specs.Checks.{sizeRefusal, auditRefusal, currencyRefusal, refusalOn};
 
 // Refusals 1 and 2, or 0: all that FORMAT asks.
 pub fn check_size(table: &[u16], file: &[u8]) -> u8
-    ensures { λ r. ⌜ r ≡ sizeRefusal (now (table .entry)) (now (file .entry)) ⌝ }
+    ensures computed { λ r. ⌜ r ≡ sizeRefusal (now (table .entry)) (now (file .entry)) ⌝ }
+    ensures exactly { λ r. ⌜ ChecksSize (now (table .entry)) (now (file .entry)) r ⌝ }
 {
     if !rules::accepted(table) {
         return Answer::BAD_TABLE;
@@ -42,7 +44,8 @@ fn check_currency(table: &[u16], file: &[u8], cur: Currency) -> u8
 
 // The first of refusals 1 to 4 that is due, or 0.
 pub fn check(table: &[u16], file: &[u8], cur: Currency) -> u8
-    ensures { λ r. ⌜ r ≡ refusalOn (now (table .entry)) (now (file .entry)) cur ⌝ }
+    ensures computed { λ r. ⌜ r ≡ refusalOn (now (table .entry)) (now (file .entry)) cur ⌝ }
+    ensures exactly { λ r. ⌜ Checks (now (table .entry)) (now (file .entry)) cur r ⌝ }
 {
     let size = check_size(table, file);
     if size != 0 {

@@ -15,7 +15,7 @@ use Rattle.ledger.specs.Table.{pages, chains, order, duplicates, isDetai
 use Rattle.ledger.specs.Pages.{Ledger, kindAt, present, masterOf, nextOf, keyIn, used, free, recordBytes, headNext, layout, WellFormed, Sound, mayPrecede, empty}
 use Rattle.ledger.specs.Currency.{unset}
 use Rattle.ledger.specs.Calls.{Turn, refuse, done, Call, FORMAT, STORE, DIRECT, KEY, NEXT, PRIOR, MASTER, EACH, MODIFY, DELETE, READ, CURRENT, FIND, RELINK, UNKNOWN, State, start, turn, settle, step, play}
-use Rattle.ledger.specs.Promise.{Plays}
+use Rattle.ledger.specs.Promise.{Plays, turnOf}
 use Rattle.ledger.specs.Bytes.{twoAt}
 use Rattle.ledger.specs.declared.Outcome.{Outcome}
 use Rattle.ledger.proofs.Lists.Sieves.{keep-all, keep-same}
@@ -31,7 +31,7 @@ use Rattle.ledger.proofs.History.Equals.{byOrder, side, hasKey}
 use Rattle.ledger.proofs.History.Events.{Event, eventsOf, told, history, under, newest, under-is, is-under}
 use Rattle.ledger.proofs.History.Told.{Tells, tells-none, tells-fresh, tells-stored, tells-relinked, tells-deleted}
 use Rattle.ledger.proofs.History.Rejoined.{tells-modified}
-use Rattle.ledger.proofs.History.Files.{called, Files, Played, not-three, files-play}
+use Rattle.ledger.proofs.History.Files.{Files, Played, not-three, files-play}
 
 -- NEXT, k times
 unfoldable pub steps : ℕ → (ℕ → ℕ) → ℕ → ℕ
@@ -66,7 +66,7 @@ pub record Demand3 (t : List ℕ) (s : State) (es : List Event) : Type 0 where
   pub free-written : (p : ℕ) → 1 ≤ p → p ≤ pages t → twoAt (layout t (s .ledger)) (512 * (p - 1) + 3) + used (recordBytes t (s .ledger)) p ≡ 496
   -- "No such file is ever called damaged": it is sound, and no call on it answers 3
   pub sound : Sound t (layout t (s .ledger)) (s .ledger)
-  pub not-damaged : (c : Call) (f′ : List ℕ) (r : Outcome) → Plays (called t (s .cur) c) t (layout t (s .ledger)) f′ (s .cur) r → r .answer .code ≢ 3
+  pub not-damaged : (c : Call) (f′ : List ℕ) (r : Outcome) → Plays (turnOf t (s .cur) c) t (layout t (s .ledger)) f′ (s .cur) r → r .answer .code ≢ 3
 
 home-steps : (nx : ℕ → ℕ) (det : ℕ → Bool) (m x : ℕ) (xs : List ℕ) → Home nx det m x xs → steps (length xs) nx x ≡ m
 unfolding steps

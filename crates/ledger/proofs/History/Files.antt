@@ -9,19 +9,15 @@ use Rattle.ledger.specs.declared.Outcome.{Outcome}
 use Rattle.ledger.specs.Table.{Accepted}
 use Rattle.ledger.specs.Pages.{Ledger, layout, Sound}
 use Rattle.ledger.specs.Calls.{Turn, refuse, done, Call, State, turn, settle, answered, answers, step, play}
-use Rattle.ledger.specs.Promise.{Plays}
+use Rattle.ledger.specs.Promise.{Plays, turnOf}
 use Rattle.ledger.proofs.History.Play.{Fit, AllFit}
 use Rattle.ledger.proofs.History.Turns.{turn-not-three}
-
--- a call, as `Plays` takes it
-abbrev pub called : List ℕ → Currency → Call → Ledger → Turn
-called t cur c l = turn t (record { ledger = l; cur = cur }) c
 
 -- promised calls one after another with these answers, from the file f and the currency cur to f′ and cur′, each on what the one before it left
 abbrev pub Files : List ℕ → List ℕ → Currency → List Call → List Answer → List ℕ → Currency → Type 0
 Files t f cur [] rs f′ cur′ = (rs ≡ []) × (f′ ≡ f) × (cur′ ≡ cur)
 Files t f cur (c ∷ cs) rs f′ cur′ =
-    (g : List ℕ) × (r : Outcome) × (bs : List Answer) × (rs ≡ r .answer ∷ bs) × Plays (called t cur c) t f g cur r × Files t g (r .currency) cs bs f′ cur′
+    (g : List ℕ) × (r : Outcome) × (bs : List Answer) × (rs ≡ r .answer ∷ bs) × Plays (turnOf t cur c) t f g cur r × Files t g (r .currency) cs bs f′ cur′
 
 -- what a promised call leaves
 pub record Left (t : List ℕ) (s : State) (c : Call) (f′ : List ℕ) (r : Outcome) : Type 0 where
@@ -30,7 +26,7 @@ pub record Left (t : List ℕ) (s : State) (c : Call) (f′ : List ℕ) (r : Out
   pub current : r .currency ≡ step t s c .cur
   pub answer : r .answer ≡ answered (turn t s c)
 
-module _ (t : List ℕ) (a : Accepted t) (s : State) (fit : Fit t s) (c : Call) (f f′ : List ℕ) (r : Outcome) (sound : Sound t f (s .ledger)) (p : Plays (called t (s .cur) c) t f f′ (s .cur) r) where
+module _ (t : List ℕ) (a : Accepted t) (s : State) (fit : Fit t s) (c : Call) (f f′ : List ℕ) (r : Outcome) (sound : Sound t f (s .ledger)) (p : Plays (turnOf t (s .cur) c) t f f′ (s .cur) r) where
   pub left : Left t s c f′ r
   unfolding settle answered
   left = go (turn t s c) refl

@@ -1,4 +1,4 @@
--- The public calls: refusals 1 to 4, then the call; and both promises from the first.
+-- The public calls: refusals 1 to 4, then the call.
 use Prim.Native.Nat.{ℕ}
 use mathlib.Core.Path.{_≡_}
 use mathlib.Core.List.{List}
@@ -7,13 +7,11 @@ use Rattle.ledger.specs.declared.Answer.{Answer}
 use Rattle.ledger.specs.declared.Currency.{Currency}
 use Rattle.ledger.specs.declared.Outcome.{Outcome}
 use Rattle.ledger.specs.Answers.{doneWith, outcome, refusal}
-use Rattle.ledger.specs.Promise.{ComesBack}
 use Rattle.ledger.specs.Currency.{unset}
 use Rattle.model.specs.Moves.{fileMade}
 use Rattle.store_model.specs.Checks.{sizeRefusal, refusalOn}
 use Rattle.store_model.specs.Changes.{Changed, changedUnless}
 use Rattle.store_model.specs.Calls.{checked, checkedWith, formatCall}
-use Rattle.store_model.proofs.Comes.{Comes}
 use Rattle.store.proofs.Laws.Changes.{unless-refused, unless-done}
 
 module _ (t f : List ℕ) (cur : Currency) (n : ℕ) (en : n ≡ refusalOn t f cur) (r : Outcome) where
@@ -43,11 +41,3 @@ module _ (t f : List ℕ) (cur : Currency) (n : ℕ) (en : n ≡ sizeRefusal t f
       → formatCall t f cur ≡ (r, g)
   unfolding formatCall
   format-done g a c z eg ea ec er = unless-done _ n cur f _ en r g z (rw (eg, er, ea, ec))
-
--- what a call computes comes back
-module _ {ns : List ℕ} {b : List ℕ} {cur : Currency} where
-  pub looked : {o : Outcome} → Comes ns b cur (o, b) → (r : Outcome) → r ≡ o → (r ≡ o) × ComesBack ns b b cur r
-  looked p r e = (e, rw e (p .back))
-
-  pub changed : {c : Changed} → Comes ns b cur c → (r : Outcome) (g : List ℕ) → c ≡ (r, g) → (c ≡ (r, g)) × ComesBack ns b g cur r
-  changed p r g e = (e, (rw e at p) .back)

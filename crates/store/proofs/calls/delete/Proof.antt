@@ -1,7 +1,7 @@
 use borrow.Author.Needs.{needs}
 use Rattle.store_model.specs.Calls.{deleteCall}
-use Rattle.store_model.proofs.Comes.{delete-comes}
-use Rattle.store.proofs.Laws.Calls.{with-refused, with-done, changed}
+use Rattle.store_laws.proofs.Promises.{delete-promised}
+use Rattle.store.proofs.Laws.Calls.{with-refused, with-done}
 use Rattle.store.proofs.calls.delete.Statement.{statement}
 use Rattle.store.proofs.calls.delete.Tie as tie
 
@@ -13,8 +13,8 @@ delete-spec =
     (λ c κs. search needs)  -- check-requires
     (λ c κs. search needs)  -- refused-requires
     (λ c. search needs)  -- same-length
-    (λ c. (changed (delete-comes _ _ _) _ _ (search (with-refused, needs))))  -- returns
+    (λ c. (delete-promised _ _ _ (search needs) (search needs) (search needs) _ _ (search (with-refused, needs))))  -- returns
     (λ c κs. search needs)  -- delete-requires
     (λ c. search needs)  -- same-length-2
-    (λ c. (changed (delete-comes _ _ _) _ _ (search (with-done, needs))))  -- returns-2
+    (λ c. (delete-promised _ _ _ (search needs) (search needs) (search needs) _ _ (search (with-done, needs))))  -- returns-2
     )

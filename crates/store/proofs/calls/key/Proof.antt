@@ -1,7 +1,7 @@
 use borrow.Author.Needs.{needs}
 use Rattle.store_model.specs.Calls.{keyCall}
-use Rattle.store_model.proofs.Comes.{key-comes}
-use Rattle.store.proofs.Laws.Calls.{checked-refused, checked-done, looked}
+use Rattle.store_laws.proofs.Promises.{key-promised}
+use Rattle.store.proofs.Laws.Calls.{checked-refused, checked-done}
 use Rattle.store.proofs.calls.key.Statement.{statement}
 use Rattle.store.proofs.calls.key.Tie as tie
 
@@ -10,7 +10,7 @@ unfolding keyCall
 key-spec = tie.close (tie.spec
     (λ c κs. search needs)  -- check-requires
     (λ c κs. search needs)  -- refused-requires
-    (λ c. (looked (key-comes _ _ _ _ _) _ (search (checked-refused, needs))))  -- returns
+    (λ c. (key-promised _ _ _ (search needs) (search needs) (search needs) _ _ _ (search (checked-refused, needs))))  -- returns
     (λ c κs. search needs)  -- key-requires
-    (λ c. (looked (key-comes _ _ _ _ _) _ (search (checked-done, needs))))  -- returns-2
+    (λ c. (key-promised _ _ _ (search needs) (search needs) (search needs) _ _ _ (search (checked-done, needs))))  -- returns-2
     )

@@ -1,7 +1,7 @@
 use borrow.Author.Needs.{needs}
 use Rattle.store_model.specs.Calls.{masterCall}
-use Rattle.store_model.proofs.Comes.{master-comes}
-use Rattle.store.proofs.Laws.Calls.{checked-refused, checked-done, looked}
+use Rattle.store_laws.proofs.Promises.{master-promised}
+use Rattle.store.proofs.Laws.Calls.{checked-refused, checked-done}
 use Rattle.store.proofs.calls.master.Statement.{statement}
 use Rattle.store.proofs.calls.master.Tie as tie
 
@@ -11,7 +11,7 @@ master-spec =
     tie.close (tie.spec
     (λ c κs. search needs)  -- check-requires
     (λ c κs. search needs)  -- refused-requires
-    (λ c. (looked (master-comes _ _ _ _) _ (search (checked-refused, needs))))  -- returns
+    (λ c. (master-promised _ _ _ (search needs) (search needs) (search needs) _ _ (search (checked-refused, needs))))  -- returns
     (λ c κs. search needs)  -- master-requires
-    (λ c. (looked (master-comes _ _ _ _) _ (search (checked-done, needs))))  -- returns-2
+    (λ c. (master-promised _ _ _ (search needs) (search needs) (search needs) _ _ (search (checked-done, needs))))  -- returns-2
     )

@@ -1,7 +1,7 @@
 use borrow.Author.Needs.{needs}
 use Rattle.store_model.specs.Calls.{modifyCall}
-use Rattle.store_model.proofs.Comes.{modify-comes}
-use Rattle.store.proofs.Laws.Calls.{with-refused, with-done, changed}
+use Rattle.store_laws.proofs.Promises.{modify-promised}
+use Rattle.store.proofs.Laws.Calls.{with-refused, with-done}
 use Rattle.store.proofs.calls.modify.Statement.{statement}
 use Rattle.store.proofs.calls.modify.Tie as tie
 
@@ -13,8 +13,8 @@ modify-spec =
     (λ c κs. search needs)  -- check-requires
     (λ c κs. search needs)  -- refused-requires
     (λ c. search needs)  -- same-length
-    (λ c. (changed (modify-comes _ _ _ _) _ _ (search (with-refused, needs))))  -- returns
+    (λ c. (modify-promised _ _ _ (search needs) (search needs) (search needs) _ _ _ (search needs) (search (with-refused, needs))))  -- returns
     (λ c κs. search needs)  -- modify-requires
     (λ c. search needs)  -- same-length-2
-    (λ c. (changed (modify-comes _ _ _ _) _ _ (search (with-done, needs))))  -- returns-2
+    (λ c. (modify-promised _ _ _ (search needs) (search needs) (search needs) _ _ _ (search needs) (search (with-done, needs))))  -- returns-2
     )

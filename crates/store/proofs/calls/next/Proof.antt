@@ -1,7 +1,7 @@
 use borrow.Author.Needs.{needs}
 use Rattle.store_model.specs.Calls.{nextCall}
-use Rattle.store_model.proofs.Comes.{next-comes}
-use Rattle.store.proofs.Laws.Calls.{checked-refused, checked-done, looked}
+use Rattle.store_laws.proofs.Promises.{next-promised}
+use Rattle.store.proofs.Laws.Calls.{checked-refused, checked-done}
 use Rattle.store.proofs.calls.next.Statement.{statement}
 use Rattle.store.proofs.calls.next.Tie as tie
 
@@ -10,7 +10,7 @@ unfolding nextCall
 next-spec = tie.close (tie.spec
     (λ c κs. search needs)  -- check-requires
     (λ c κs. search needs)  -- refused-requires
-    (λ c. (looked (next-comes _ _ _ _) _ (search (checked-refused, needs))))  -- returns
+    (λ c. (next-promised _ _ _ (search needs) (search needs) (search needs) _ _ (search (checked-refused, needs))))  -- returns
     (λ c κs. search needs)  -- next-requires
-    (λ c. (looked (next-comes _ _ _ _) _ (search (checked-done, needs))))  -- returns-2
+    (λ c. (next-promised _ _ _ (search needs) (search needs) (search needs) _ _ (search (checked-done, needs))))  -- returns-2
     )

@@ -1,7 +1,7 @@
 use borrow.Author.Needs.{needs}
 use Rattle.store_model.specs.Calls.{priorCall}
-use Rattle.store_model.proofs.Comes.{prior-comes}
-use Rattle.store.proofs.Laws.Calls.{checked-refused, checked-done, looked}
+use Rattle.store_laws.proofs.Promises.{prior-promised}
+use Rattle.store.proofs.Laws.Calls.{checked-refused, checked-done}
 use Rattle.store.proofs.calls.prior.Statement.{statement}
 use Rattle.store.proofs.calls.prior.Tie as tie
 
@@ -10,7 +10,7 @@ unfolding priorCall
 prior-spec = tie.close (tie.spec
     (λ c κs. search needs)  -- check-requires
     (λ c κs. search needs)  -- refused-requires
-    (λ c. (looked (prior-comes _ _ _ _) _ (search (checked-refused, needs))))  -- returns
+    (λ c. (prior-promised _ _ _ (search needs) (search needs) (search needs) _ _ (search (checked-refused, needs))))  -- returns
     (λ c κs. search needs)  -- prior-requires
-    (λ c. (looked (prior-comes _ _ _ _) _ (search (checked-done, needs))))  -- returns-2
+    (λ c. (prior-promised _ _ _ (search needs) (search needs) (search needs) _ _ (search (checked-done, needs))))  -- returns-2
     )

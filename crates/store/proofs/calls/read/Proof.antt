@@ -1,7 +1,7 @@
 use borrow.Author.Needs.{needs}
 use Rattle.store_model.specs.Calls.{readCall}
-use Rattle.store_model.proofs.Comes.{read-comes}
-use Rattle.store.proofs.Laws.Calls.{with-refused, with-done, changed}
+use Rattle.store_laws.proofs.Promises.{read-promised}
+use Rattle.store.proofs.Laws.Calls.{with-refused, with-done}
 use Rattle.store.proofs.calls.read.Statement.{statement}
 use Rattle.store.proofs.calls.read.Tie as tie
 
@@ -12,8 +12,8 @@ read-spec =
     (tie.spec
     (λ c κs. search needs)  -- check-requires
     (λ c κs. search needs)  -- refused-requires
-    (λ c. (changed (read-comes _ _ _ _) _ _ (search (with-refused, needs))))  -- returns
+    (λ c. (read-promised _ _ _ (search needs) (search needs) (search needs) _ _ _ (search (with-refused, needs))))  -- returns
     (λ c κs. search needs)  -- read-requires
     (λ c. search needs)  -- same-length
-    (λ c. (changed (read-comes _ _ _ _) _ _ (search (with-done, needs))))  -- returns-2
+    (λ c. (read-promised _ _ _ (search needs) (search needs) (search needs) _ _ _ (search (with-done, needs))))  -- returns-2
     )

@@ -1,0 +1,1 @@
+// What the calls that read have to do with the ledger: laws only. No code.

@@ -1,0 +1,1 @@
+// What the calls' models have to do with the ledger: laws only. No code.
