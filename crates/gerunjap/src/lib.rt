@@ -6,8 +6,10 @@ use ledger::Currency;
 use page::writes;
 ghost use mathlib.Core.Path.{_≡_};
 ghost use lib.ListN.{getD};
+ghost use Rattle.ledger.specs.Interface.{Lends};
 ghost use Rattle.model.specs.Moves.{partPut};
-ghost use Rattle.gerunjap_model.specs.Lent.{sixteenOf, currencyOf, currencyPut, answerPut8, callOn};
+ghost use Rattle.play_model.specs.Plays.{playOn};
+ghost use Rattle.gerunjap_model.specs.Lent.{sixteenOf, currencyOf, currencyPut, answerPut8, answered, callOn};
 
 // The frame was answered.
 pub const ANSWERED: u8 = 0;
@@ -55,7 +57,7 @@ fn sixteen_at(words: &[u32], at: usize) -> [u32; 16]
 }
 
 // The currency in 33 words.
-fn currency_of(words: &[u32]) -> Currency
+pub fn currency_of(words: &[u32]) -> Currency
     ensures { λ r. ⌜ r ≡ currencyOf (now (words .entry)) ⌝ }
 {
     Currency {
@@ -65,7 +67,7 @@ fn currency_of(words: &[u32]) -> Currency
     }
 }
 
-fn put_currency(words: &mut [u32], cur: Currency)
+pub fn put_currency(words: &mut [u32], cur: Currency)
     ensures { λ _. ⌜ currencyPut (now (words .entry)) cur ≡ now (words .exit) ⌝ }
 {
     let run = [cur.run];
@@ -77,13 +79,32 @@ fn put_currency(words: &mut [u32], cur: Currency)
 }
 
 // Puts an answer into 8 bytes: code 1, reference code 3, type 2, count 2.
-fn put_answer(out: &mut [u8], a: Answer)
+pub fn put_answer(out: &mut [u8], a: Answer)
     ensures { λ _. ⌜ answerPut8 (now (out .entry)) a ≡ now (out .exit) ⌝ }
 {
     writes::put_byte(out, 0, a.code);
     writes::put_three(out, 1, a.reference);
     copies::put_two(out, 4, a.kind);
     copies::put_two(out, 6, a.count);
+}
+
+// Plays a well-made frame over 33 words and at least 8 bytes, and puts its answer.
+fn answer_frame(
+    table: &[u16],
+    file: &mut [u8],
+    currency: &mut [u32],
+    frame: &[u8],
+    output: &mut [u8],
+    answer: &mut [u8],
+) -> u8
+    ensures { λ r. ⌜ answered (now (currency .entry)) (now (answer .entry)) (playOn (now (table .entry)) (now (file .entry)) (currencyOf (now (currency .entry))) (now (frame .entry)) (now (output .entry))) ≡ (r, now (file .exit), now (currency .exit), now (output .exit), now (answer .exit)) ⌝ }
+{
+    let done = play::play(table, file, currency_of(currency), frame, output);
+    let cur = done.currency;
+    let a = done.answer;
+    put_currency(currency, cur);
+    put_answer(answer, a);
+    ANSWERED
 }
 
 // Plays one frame on a lent table, file, currency and output, and puts its answer. At any status but ANSWERED nothing is written.
@@ -97,6 +118,7 @@ pub extern "C" fn gerunjap_call(
     answer: &mut [u8],
 ) -> u8
     ensures computed { λ r. ⌜ callOn (now (table .entry)) (now (file .entry)) (now (currency .entry)) (now (frame .entry)) (now (output .entry)) (now (answer .entry)) ≡ (r, now (file .exit), now (currency .exit), now (output .exit), now (answer .exit)) ⌝ }
+    ensures lends { λ r. ⌜ Lends (now (table .entry)) (now (file .entry)) (now (file .exit)) (now (currency .entry)) (now (currency .exit)) (now (frame .entry)) (now (output .entry)) (now (output .exit)) (now (answer .entry)) (now (answer .exit)) r ⌝ }
 {
     if currency.len() != 33 {
         return BAD_LENT;
@@ -107,10 +129,5 @@ pub extern "C" fn gerunjap_call(
     if !shape::well_made(frame) {
         return ILL_MADE;
     }
-    let done = play::play(table, file, currency_of(currency), frame, output);
-    let cur = done.currency;
-    let a = done.answer;
-    put_currency(currency, cur);
-    put_answer(answer, a);
-    ANSWERED
+    answer_frame(table, file, currency, frame, output, answer)
 }

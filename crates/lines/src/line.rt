@@ -12,6 +12,9 @@ use page::bytes;
 use table::words;
 ghost use mathlib.Core.Path.{_≡_};
 ghost use Rattle.ledger.specs.Player.{wellMade};
+ghost use Prim.Native.Nat.{_≤_};
+ghost use lib.ListN.{length};
+ghost use Rattle.play_laws.specs.Buffers.{Stands, LinePlays};
 ghost use Rattle.line_model.specs.Lines.{shownOf, replyOf, callUnder, callFrame, frameOn, frameIn, printedOn, badOn, answered, lineOn};
 
 // The longest line that is no fault.
@@ -183,7 +186,8 @@ pub fn play(
     line: &[u8],
     out: &mut [u8],
 ) -> Played
-    ensures { λ r. ⌜ lineOn (now (table .entry)) (now (file .entry)) session (now (line .entry)) (now (out .entry)) ≡ (r, now (table .exit), now (file .exit), now (out .exit)) ⌝ }
+    ensures computed { λ r. ⌜ lineOn (now (table .entry)) (now (file .entry)) session (now (line .entry)) (now (out .entry)) ≡ (r, now (table .exit), now (file .exit), now (out .exit)) ⌝ }
+    ensures plays { λ r. ⌜ (Stands (now (table .entry)) (now (file .entry)) session → 417 ≤ length (now (out .entry)) → LinePlays (now (table .entry)) (now (file .entry)) session (now (line .entry)) (now (out .entry)) r (now (table .exit)) (now (file .exit)) (now (out .exit))) ⌝ }
 {
     let mut space = [0u8; FRAME];
     let n = take_frame(line, &mut space);

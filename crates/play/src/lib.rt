@@ -5,10 +5,13 @@ use ledger::Outcome;
 use page::bytes;
 use store::calls;
 ghost use mathlib.Core.Path.{_≡_};
+ghost use lib.ListN.{length};
+ghost use Rattle.ledger.specs.Promise.{Promised};
+ghost use Rattle.ledger.specs.Player.{callIn};
 ghost use Rattle.play_model.specs.Plays.{isChange, changeOn, lookOn, playOn};
 
 // Whether a call, by its number, changes the file.
-fn is_change(call: u8) -> bool
+pub fn is_change(call: u8) -> bool
     ensures { λ r. ⌜ r ≡ isChange call ⌝ }
 {
     match call {
@@ -101,6 +104,7 @@ pub fn play(
     output: &mut [u8],
 ) -> Outcome
     ensures computed { λ r. ⌜ playOn (now (table .entry)) (now (file .entry)) cur (now (frame .entry)) (now (output .entry)) ≡ (r, now (file .exit), now (output .exit)) ⌝ }
+    ensures promised { λ r. ⌜ Promised (callIn (now (frame .entry)) (length (now (output .entry)))) (now (table .entry)) (now (file .entry)) (now (file .exit)) (now (output .entry)) (now (output .exit)) cur r ⌝ }
 {
     let call = bytes::byte_at(frame, 0);
     if call == 10 {

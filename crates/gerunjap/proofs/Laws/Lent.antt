@@ -59,9 +59,14 @@ module _ (t f words fr out answer : List ℕ) where
       unfolding callOn
       call-ill n = rw (eq-eqb (length words) 33 w, le-ltb (length answer) 8 h, ← em, not-true m n)
 
-      pub call-done : (cur : Currency) (r : Outcome) (f₂ out₂ words₂ answer₂ : List ℕ) → not m ≡ false → cur ≡ currencyOf words
-          → playOn t f cur fr out ≡ (r, f₂, out₂) → currencyPut words (r .currency) ≡ words₂ → answerPut8 answer (r .answer) ≡ answer₂
-          → callOn t f words fr out answer ≡ (0, f₂, words₂, out₂, answer₂)
+      pub call-done : (r : ℕ) (f₂ out₂ words₂ answer₂ : List ℕ) → not m ≡ false
+          → answered words answer (playOn t f (currencyOf words) fr out) ≡ (r, f₂, words₂, out₂, answer₂)
+          → callOn t f words fr out answer ≡ (r, f₂, words₂, out₂, answer₂)
       unfolding callOn
-      call-done cur r f₂ out₂ words₂ answer₂ n ec ep ew ea =
-          rw (eq-eqb (length words) 33 w, le-ltb (length answer) 8 h, ← em, not-false m n, ← ec, ep, ew, ea)
+      call-done r f₂ out₂ words₂ answer₂ n e = rw (eq-eqb (length words) 33 w, le-ltb (length answer) 8 h, ← em, not-false m n) e
+
+-- answer_frame
+pub frame-answered : (t f fr out words answer : List ℕ) (cur : Currency) (r : Outcome) (f₂ out₂ words₂ answer₂ : List ℕ) → cur ≡ currencyOf words
+    → playOn t f cur fr out ≡ (r, f₂, out₂) → currencyPut words (r .currency) ≡ words₂ → answerPut8 answer (r .answer) ≡ answer₂
+    → answered words answer (playOn t f (currencyOf words) fr out) ≡ (0, f₂, words₂, out₂, answer₂)
+frame-answered t f fr out words answer cur r f₂ out₂ words₂ answer₂ ec ep ew ea = rw (← ec, ep, ew, ea)

@@ -1,4 +1,5 @@
 use borrow.Author.Needs.{needs}
+use Rattle.play_laws.proofs.Promises.{played-both}
 use Rattle.play.proofs.Laws.Plays.{play-read, play-changed, play-looked}
 use Rattle.play.proofs.play.Statement.{statement}
 use Rattle.play.proofs.play.Tie as tie
@@ -11,12 +12,12 @@ play-spec =
     (λ c κs. search needs)  -- read-requires
     (λ c. search needs)  -- same-length
     (λ c. search needs)  -- same-length-2
-    (λ c. search (play-read, needs))  -- returns
+    (λ c. (played-both _ _ _ (search needs) (search needs) (search needs) _ (search needs) _ _ _ _ (search (play-read, needs))))  -- returns
     (λ c κs. search needs)  -- is-change-requires
     (λ c κs. search needs)  -- play-change-requires
     (λ c. search needs)  -- same-length-3
-    (λ c. search (play-changed, needs))  -- returns-2
+    (λ c. (played-both _ _ _ (search needs) (search needs) (search needs) _ (search needs) _ _ _ _ (search (play-changed, needs))))  -- returns-2
     (λ c κs. search needs)  -- play-look-requires
     (λ c. search needs)  -- same-length-4
-    (λ c. search (play-looked, needs))  -- returns-3
+    (λ c. (played-both _ _ _ (search needs) (search needs) (search needs) _ (search needs) _ _ _ _ (search (play-looked, needs))))  -- returns-3
     )

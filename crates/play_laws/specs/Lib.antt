@@ -1,0 +1,3 @@
+-- The player's lines.
+pub mod Line
+pub mod Buffers
