@@ -8,7 +8,9 @@ pub mod Currency
 pub mod Calls
 pub mod Promise
 pub mod Player
+pub mod Line
 pub mod Interface
+pub mod History
 pub mod Examples
 -- What stands between a file's bytes and its ledger: what the functions below the calls promise.
 pub mod Bytes

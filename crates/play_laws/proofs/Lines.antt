@@ -20,7 +20,7 @@ use Rattle.frames_model.proofs.Texts.{text-put, line-stands}
 use Rattle.line_model.specs.declared.Session.{Session}
 use Rattle.line_model.specs.declared.Played.{Played}
 use Rattle.line_model.specs.Lines.{Framed, frameOn, printedOn, badOn, Lined, lined, answered, lineOn}
-use Rattle.play_laws.specs.Line.{lineOf}
+use Rattle.ledger.specs.Line.{answerLine}
 use Rattle.play_laws.specs.Buffers.{Stands, LinePlays}
 use Rattle.play_laws.proofs.Decoded.{heldIn, Carries, line-reads}
 use Rattle.play_laws.proofs.Opened.{textOf, Answering, format-frame}
@@ -31,11 +31,11 @@ pub start-stands : (t f : List ℕ) → 243 ≤ length t → 65536 ≤ length f 
 start-stands t f h k = record { table-room = h; file-room = k; words-in = omega arith; accepted = inl refl; types = refl; chains = refl }
 
 -- an answer's line is at most 417 characters long
-length-line : (a : Answer) (bs : List ℕ) → length bs ≤ 200 → length (lineOf a bs) ≤ 417
+length-line : (a : Answer) (bs : List ℕ) → length bs ≤ 200 → length (answerLine a bs) ≤ 417
 unfolding textPut
 length-line a bs short =
     let room : 17 + 2 * length bs ≤ length (replicate {A = ℕ} 417 0) = rw length-replicate (omega arith) in
-    let e : length (lineOf a (take 200 bs)) ≡ 17 + 2 * length bs = ap (λ (r : ℕ × List ℕ). r .0) (line-stands (replicate 417 0) a bs short room) in
+    let e : length (answerLine a (take 200 bs)) ≡ 17 + 2 * length bs = ap (λ (r : ℕ × List ℕ). r .0) (line-stands (replicate 417 0) a bs short room) in
     omega (arith, rw (take-all 200 bs short) at e)
 
 module _ (t f : List ℕ) (small : (i : ℕ) → Fits w8 (getD f i 0)) (w : Session) (st : Stands t f w)

@@ -27,13 +27,13 @@ use Rattle.store_laws.proofs.Formatted.{format-formats}
 use Rattle.line_model.specs.declared.Session.{Session}
 use Rattle.line_model.specs.Formats.{wordsPut, told, Formatted, unchanged, formatIn, formatUnder, formatFrame}
 use Rattle.line_model.specs.Lines.{Framed, withOutput}
-use Rattle.play_laws.specs.Line.{tableIn, lineOf, FramePlays}
+use Rattle.ledger.specs.Line.{tableIn, answerLine, FramePlays}
 use Rattle.play_laws.specs.Buffers.{playingIn, Stands}
 use Rattle.play_laws.proofs.Words.{length-table, words-in, put-part, length-put, mid-part, length-mid}
 
 -- a frame's line, and what it does
 abbrev pub textOf : Framed → List ℕ
-textOf r = lineOf (r .0 .answer) (take 200 (part 0 (r .0 .shown) (r .3)))
+textOf r = answerLine (r .0 .answer) (take 200 (part 0 (r .0 .shown) (r .3)))
 
 pub record Answering (t f : List ℕ) (w : Session) (fr : List ℕ) (r : Framed) : Type 0 where
   pub stands : Stands (r .1) (r .2) (r .0 .session)

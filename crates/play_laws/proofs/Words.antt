@@ -10,7 +10,7 @@ use Rattle.ledger.specs.Numbers.{part}
 use Rattle.ledger.specs.Bytes.{twoAt}
 use Rattle.ledger.proofs.Lists.Tests.{same-or-not}
 use Rattle.line_model.specs.Formats.{fillFrom, filled, wordIn, wordsIn, wordsPut}
-use Rattle.play_laws.specs.Line.{tableIn}
+use Rattle.ledger.specs.Line.{tableIn}
 
 -- words filled one by one
 module _ (g : ℕ → ℕ) where

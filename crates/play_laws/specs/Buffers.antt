@@ -8,7 +8,7 @@ use Rattle.ledger.specs.Numbers.{part}
 use Rattle.ledger.specs.Table.{pages, Accepted}
 use Rattle.line_model.specs.declared.Session.{Session}
 use Rattle.line_model.specs.declared.Played.{Played}
-use Rattle.play_laws.specs.Line.{Playing, Line}
+use Rattle.ledger.specs.Line.{Playing, Line}
 
 -- as many words of the table's buffer as the session says, and as many bytes of the file's as their pages ask
 abbrev pub playingIn : List ℕ → List ℕ → Session → Playing

@@ -1,3 +1,2 @@
--- The player's lines.
-pub mod Line
+-- The player's buffers.
 pub mod Buffers

@@ -10,6 +10,7 @@ use Rattle.ledger.specs.Numbers.{elem, keep, pairs, lessKey, sameKey}
 use Rattle.ledger.specs.Table.{chains, order, duplicates, Accepted}
 use Rattle.ledger.specs.Pages.{Ledger, keyIn, mayPrecede}
 use Rattle.ledger.specs.Calls.{stops, joined}
+use Rattle.ledger.specs.History.{hasKey}
 use Rattle.ledger.proofs.Lists.Tests.{byCases, clash, not-true-false}
 use Rattle.ledger.proofs.Lists.Members.{elem-reverse}
 use Rattle.ledger.proofs.Lists.Sieves.{keep-reverse}
@@ -36,10 +37,6 @@ elem-joined t l j key y x xs = elem-into (stops t l j key) x xs y
 -- the end at which a chain takes a new one among equals: 0 first, else last
 unfoldable pub side : List ℕ → ℕ → ℕ
 side t j = cond (eqb (order t j) 0) 0 (cond (eqb (order t j) 1) 1 (duplicates t j))
-
--- whether a record has this key in a chain
-abbrev pub hasKey : List ℕ → Ledger → ℕ → List ℕ → ℕ → Bool
-hasKey t l j k y = sameKey (keyIn t l j y) k
 
 module _ (t : List ℕ) (l : Ledger) (j : ℕ) (a : Accepted t) (lt : j < chains t) (key : List ℕ) where
   past-more : (k v : List ℕ) → lessKey key k ≡ true → lessKey v k ≡ false → sameKey v key ≡ false

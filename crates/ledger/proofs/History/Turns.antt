@@ -1,5 +1,5 @@
--- What an accepted call did to the ledger, told from its answer; and that no call of a ledger answers 3.
-use Prim.Native.Nat.{ℕ}
+-- What an accepted call did to the ledger, told from its answer; and that a call of a ledger answers 0, or refuses from 5 on.
+use Prim.Native.Nat.{ℕ, _≤_, _<_}
 use mathlib.Core.Path.{_≡_, refl, sym, ap}
 use mathlib.Core.Logic.{_≢_}
 use mathlib.Core.Bool.{Bool, true, false}
@@ -9,10 +9,13 @@ use lib.Dec.{eqb}
 use borrow.Author.Tests.{eqb-false}
 use Rattle.ledger.specs.declared.Answer.{Answer}
 use Rattle.ledger.specs.declared.Currency.{Currency}
+use Rattle.ledger.specs.Table.{chains, isDetail}
 use Rattle.ledger.specs.Pages.{codeOf, Ledger, present}
-use Rattle.ledger.specs.Answers.{doneWith}
-use Rattle.ledger.specs.Calls.{Turn, refuse, done, unless, arrive, found, along, freeLine, takes, tried, basePage, placeFor, stored, store, direct, key, current, find, next, prior, master, each, modified, modify, relinked, relink, deleted, delete, read, Call, FORMAT, STORE, DIRECT, KEY, NEXT, PRIOR, MASTER, EACH, MODIFY, DELETE, READ, CURRENT, FIND, RELINK, UNKNOWN, State, turn, answered}
+use Rattle.ledger.specs.Currency.{chainCurrent}
+use Rattle.ledger.specs.Calls.{Turn, refuse, done, unless, arrive, asDetail, found, along, freeLine, takes, tried, basePage, placeFor, stored, store, direct, key, current, find, next, prior, master, each, modified, modify, relinked, relink, deleted, delete, read, Call, FORMAT, STORE, DIRECT, KEY, NEXT, PRIOR, MASTER, EACH, MODIFY, DELETE, READ, CURRENT, FIND, RELINK, UNKNOWN, State, turn}
 use Rattle.ledger.proofs.Lists.Searches.{firstOf-passes}
+use Rattle.ledger.proofs.Lists.Members.{none-any}
+use Rattle.ledger.proofs.Ledger.Rows.{as-detail}
 use Rattle.ledger.proofs.Keeps.Placing.{taking}
 use Rattle.ledger.proofs.Delete.Backed.{delete-parts}
 
@@ -44,22 +47,15 @@ pub found-leaves : (t : List ℕ) (l : Ledger) (cur : Currency) (p : ℕ → Boo
 unfolding found
 found-leaves t l cur p xs = unless-leaves _ 9 l _ (arrive-leaves t l cur _ _)
 
--- no call of a ledger answers 3, "the file is not sound"
-abbrev pub NotThree : Turn → Type 0
-NotThree r = answered r .code ≢ 3
+-- a call of a ledger answers 0 where it is done, and its refusals are those from 5 on
+abbrev pub Numbered : Turn → Type 0
+Numbered (refuse n) = 5 ≤ n
+Numbered (done a l c) = a .code ≡ 0
 
-refused-not-three : (n : ℕ) → n ≢ 3 → NotThree (refuse n)
-unfolding answered
-refused-not-three n low = low
-
-unless-not-three : (b : Bool) (n : ℕ) (r : Turn) → n ≢ 3 → NotThree r → NotThree (unless b n r)
-unfolding unless answered
-unless-not-three true n r low h = low
-unless-not-three false n r low h = h
-
-done-not-three : (x n k : ℕ) (l : Ledger) (c : Currency) → NotThree (done (doneWith x n k) l c)
-unfolding answered
-done-not-three x n k l c = omega arith
+unless-numbered : (b : Bool) (n : ℕ) (r : Turn) → 5 ≤ n → Numbered r → Numbered (unless b n r)
+unfolding unless
+unless-numbered true n r low h = low
+unless-numbered false n r low h = h
 
 -- the calls that only look
 module _ (t : List ℕ) (l : Ledger) (cur : Currency) where
@@ -112,13 +108,16 @@ module _ (t : List ℕ) (l : Ledger) (cur : Currency) (a : Answer) (l′ : Ledge
   unfolding arrive
   arrive-done m x k e = let q = done-parts _ m _ a l′ c e in (sym (ap (λ (r : Answer). r .reference) (q .0)), sym (q .1))
 
-  pub store-done : (n : ℕ) (d : List ℕ) → store t l cur n d ≡ done a l′ c → (present l (a .reference) ≡ false) × (l′ ≡ stored t l cur n d (a .reference))
+  pub store-done : (n : ℕ) (d : List ℕ) → store t l cur n d ≡ done a l′ c
+      → (present l (a .reference) ≡ false) × ((j : ℕ) → j < chains t → isDetail t j n ≡ true → chainCurrent cur j ≢ 0) × (l′ ≡ stored t l cur n d (a .reference))
   unfolding store
   store-done n d e =
-      let r = unless-done _ 8 _ a l′ c (unless-done _ 6 _ a l′ c (unless-done _ 5 _ a l′ c e .1) .1) .1 in
-      let s = unless-done _ 11 _ a l′ c (unless-done _ 10 _ a l′ c r .1) in
+      let u = unless-done _ 6 _ a l′ c (unless-done _ 5 _ a l′ c e .1) in
+      let s = unless-done _ 11 _ a l′ c (unless-done _ 10 _ a l′ c (unless-done _ 8 _ a l′ c (u .1) .1) .1) in
       let q = arrive-done _ _ 0 (s .1) in
-      (rw (q .0) (place-free t l cur n d (s .0)), rw (q .0) (q .1))
+      let set : (j : ℕ) → j < chains t → isDetail t j n ≡ true → chainCurrent cur j ≢ 0 =
+      λ j lt i. eqb-false (chainCurrent cur j) 0 (none-any (λ k. eqb (chainCurrent cur k) 0) (asDetail t n) (u .0) j (as-detail t n j lt i)) in
+      (rw (q .0) (place-free t l cur n d (s .0)), set, rw (q .0) (q .1))
 
   pub modify-done : (d : List ℕ) → modify t l cur d ≡ done a l′ c → l′ ≡ modified t l (a .reference) d
   unfolding modify
@@ -133,40 +132,40 @@ module _ (t : List ℕ) (l : Ledger) (cur : Currency) (a : Answer) (l′ : Ledge
       let q = arrive-done _ _ 0 (unless-done _ 10 _ a l′ c (unless-done _ 9 _ a l′ c r .1) .1) in
       rw (q .0) (q .1)
 
-  pub delete-done : delete t l cur ≡ done a l′ c → l′ ≡ deleted t l (a .reference)
-  delete-done e = let (n, p, q, r) = delete-parts t l cur a l′ c e in rw p q
+  pub delete-done : delete t l cur ≡ done a l′ c → (a .reference ≢ 0) × (a .reference ≡ cur .run) × (l′ ≡ deleted t l (a .reference))
+  delete-done e = let (n, p, q, r) = delete-parts t l cur a l′ c e in rw p (n, refl, q)
 
 -- the answers of the calls
 module _ (t : List ℕ) (l : Ledger) (cur : Currency) where
-  arrive-not-three : (x k : ℕ) (m : Ledger) → NotThree (arrive t m cur x k)
+  arrive-numbered : (x k : ℕ) (m : Ledger) → Numbered (arrive t m cur x k)
   unfolding arrive
-  arrive-not-three x k m = done-not-three _ _ _ m _
+  arrive-numbered x k m = refl
 
-  found-not-three : (p : ℕ → Bool) (xs : List ℕ) → NotThree (found t l cur p xs)
+  found-numbered : (p : ℕ → Bool) (xs : List ℕ) → Numbered (found t l cur p xs)
   unfolding found
-  found-not-three p xs = unless-not-three _ 9 _ (omega arith) (arrive-not-three _ _ l)
+  found-numbered p xs = unless-numbered _ 9 _ (omega arith) (arrive-numbered _ _ l)
 
-  along-not-three : (way : List ℕ → Ledger → ℕ → ℕ → ℕ) (j : ℕ) → NotThree (along way t l cur j)
+  along-numbered : (way : List ℕ → Ledger → ℕ → ℕ → ℕ) (j : ℕ) → Numbered (along way t l cur j)
   unfolding along
-  along-not-three way j = unless-not-three _ 5 _ (omega arith) (unless-not-three _ 6 _ (omega arith) (arrive-not-three _ 0 l))
+  along-numbered way j = unless-numbered _ 5 _ (omega arith) (unless-numbered _ 6 _ (omega arith) (arrive-numbered _ 0 l))
 
-pub turn-not-three : (t : List ℕ) (s : State) (c : Call) → NotThree (turn t s c)
+pub turn-numbered : (t : List ℕ) (s : State) (c : Call) → Numbered (turn t s c)
 unfolding turn store direct key next prior master each modify delete read current find relink
-turn-not-three t s FORMAT = done-not-three _ _ _ _ _
-turn-not-three t s (STORE n d) =
-    unless-not-three _ 5 _ (omega arith) (unless-not-three _ 6 _ (omega arith) (unless-not-three _ 8 _ (omega arith) (unless-not-three _ 10 _ (omega arith) (unless-not-three _ 11 _ (omega arith) (arrive-not-three t (s .ledger) (s .cur) _ 0 _)))))
-turn-not-three t s (DIRECT x) = unless-not-three _ 9 _ (omega arith) (arrive-not-three t (s .ledger) (s .cur) x 0 _)
-turn-not-three t s (KEY n k) = unless-not-three _ 5 _ (omega arith) (unless-not-three _ 7 _ (omega arith) (unless-not-three _ 8 _ (omega arith) (found-not-three t (s .ledger) (s .cur) _ _)))
-turn-not-three t s (NEXT j) = along-not-three t (s .ledger) (s .cur) _ j
-turn-not-three t s (PRIOR j) = along-not-three t (s .ledger) (s .cur) _ j
-turn-not-three t s (MASTER j) = along-not-three t (s .ledger) (s .cur) _ j
-turn-not-three t s (EACH low high) = unless-not-three _ 9 _ (omega arith) (arrive-not-three t (s .ledger) (s .cur) _ 0 _)
-turn-not-three t s (MODIFY d) = unless-not-three _ 6 _ (omega arith) (unless-not-three _ 8 _ (omega arith) (unless-not-three _ 10 _ (omega arith) (arrive-not-three t (s .ledger) (s .cur) _ 0 _)))
-turn-not-three t s DELETE = unless-not-three _ 6 _ (omega arith) (done-not-three _ _ _ _ _)
-turn-not-three t s (READ room) = unless-not-three _ 6 _ (omega arith) (unless-not-three _ 12 _ (omega arith) (done-not-three _ _ _ _ _))
-turn-not-three t s (CURRENT n) = unless-not-three _ 5 _ (omega arith) (unless-not-three _ 6 _ (omega arith) (arrive-not-three t (s .ledger) (s .cur) _ 0 _))
-turn-not-three t s (FIND j k) =
-    unless-not-three _ 5 _ (omega arith) (unless-not-three _ 6 _ (omega arith) (unless-not-three _ 7 _ (omega arith) (unless-not-three _ 8 _ (omega arith) (found-not-three t (s .ledger) (s .cur) _ _))))
-turn-not-three t s (RELINK j m) =
-    unless-not-three _ 5 _ (omega arith) (unless-not-three _ 6 _ (omega arith) (unless-not-three _ 7 _ (omega arith) (unless-not-three _ 9 _ (omega arith) (unless-not-three _ 10 _ (omega arith) (arrive-not-three t (s .ledger) (s .cur) _ 0 _)))))
-turn-not-three t s UNKNOWN = refused-not-three 5 (omega arith)
+turn-numbered t s FORMAT = refl
+turn-numbered t s (STORE n d) =
+    unless-numbered _ 5 _ (omega arith) (unless-numbered _ 6 _ (omega arith) (unless-numbered _ 8 _ (omega arith) (unless-numbered _ 10 _ (omega arith) (unless-numbered _ 11 _ (omega arith) (arrive-numbered t (s .ledger) (s .cur) _ 0 _)))))
+turn-numbered t s (DIRECT x) = unless-numbered _ 9 _ (omega arith) (arrive-numbered t (s .ledger) (s .cur) x 0 _)
+turn-numbered t s (KEY n k) = unless-numbered _ 5 _ (omega arith) (unless-numbered _ 7 _ (omega arith) (unless-numbered _ 8 _ (omega arith) (found-numbered t (s .ledger) (s .cur) _ _)))
+turn-numbered t s (NEXT j) = along-numbered t (s .ledger) (s .cur) _ j
+turn-numbered t s (PRIOR j) = along-numbered t (s .ledger) (s .cur) _ j
+turn-numbered t s (MASTER j) = along-numbered t (s .ledger) (s .cur) _ j
+turn-numbered t s (EACH low high) = unless-numbered _ 9 _ (omega arith) (arrive-numbered t (s .ledger) (s .cur) _ 0 _)
+turn-numbered t s (MODIFY d) = unless-numbered _ 6 _ (omega arith) (unless-numbered _ 8 _ (omega arith) (unless-numbered _ 10 _ (omega arith) (arrive-numbered t (s .ledger) (s .cur) _ 0 _)))
+turn-numbered t s DELETE = unless-numbered _ 6 _ (omega arith) refl
+turn-numbered t s (READ room) = unless-numbered _ 6 _ (omega arith) (unless-numbered _ 12 _ (omega arith) refl)
+turn-numbered t s (CURRENT n) = unless-numbered _ 5 _ (omega arith) (unless-numbered _ 6 _ (omega arith) (arrive-numbered t (s .ledger) (s .cur) _ 0 _))
+turn-numbered t s (FIND j k) =
+    unless-numbered _ 5 _ (omega arith) (unless-numbered _ 6 _ (omega arith) (unless-numbered _ 7 _ (omega arith) (unless-numbered _ 8 _ (omega arith) (found-numbered t (s .ledger) (s .cur) _ _))))
+turn-numbered t s (RELINK j m) =
+    unless-numbered _ 5 _ (omega arith) (unless-numbered _ 6 _ (omega arith) (unless-numbered _ 7 _ (omega arith) (unless-numbered _ 9 _ (omega arith) (unless-numbered _ 10 _ (omega arith) (arrive-numbered t (s .ledger) (s .cur) _ 0 _)))))
+turn-numbered t s UNKNOWN = omega arith

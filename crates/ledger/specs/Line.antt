@@ -30,8 +30,8 @@ tableIn (a ∷ []) = []
 tableIn (a ∷ b ∷ bs) = (256 * a + b) ∷ tableIn bs
 
 -- an answer's line, with READ's data and its line end
-abbrev pub lineOf : Answer → List ℕ → List ℕ
-lineOf a bs = printed a bs ++ (10 ∷ [])
+abbrev pub answerLine : Answer → List ℕ → List ℕ
+answerLine a bs = printed a bs ++ (10 ∷ [])
 
 -- a frame but 00 once there is a table: a call with an output of 200 bytes, its outcome `r`, and what READ shows
 pub record Answers (s s′ : Playing) (fr out : List ℕ) : Type 0 where
@@ -43,14 +43,14 @@ pub record Answers (s s′ : Playing) (fr out : List ℕ) : Type 0 where
   pub currency : s′ .cur ≡ r .currency
   pub data-shown : callIn fr 200 ≡ READ 200 → r .answer .code ≡ 0 → (l : Ledger) → Sound (s .table) (s .file) l → shown ≡ bytesAt l (s .cur .run)
   pub none-shown : ((callIn fr 200 ≡ READ 200 → ⊥) ⊎ (r .answer .code ≡ 0 → ⊥)) → shown ≡ []
-  pub prints : out ≡ lineOf (r .answer) shown
+  pub prints : out ≡ answerLine (r .answer) shown
 
 -- a well-made frame
 pub record FramePlays (s s′ : Playing) (fr out : List ℕ) : Type 0 where
   pub fresh : getD fr 0 0 ≡ 0 → Accepted (tableIn (drop 1 fr))
-      → (s′ ≡ record { table = tableIn (drop 1 fr); file = layout (tableIn (drop 1 fr)) empty; cur = unset }) × (out ≡ lineOf (doneWith 0 0 0) [])
-  pub unfit : getD fr 0 0 ≡ 0 → (Accepted (tableIn (drop 1 fr)) → ⊥) → (s′ ≡ s) × (out ≡ lineOf (refusedWith 1) [])
-  pub early : (getD fr 0 0 ≡ 0 → ⊥) → s .table ≡ [] → (s′ ≡ s) × (out ≡ lineOf (refusedWith 1) [])
+      → (s′ ≡ record { table = tableIn (drop 1 fr); file = layout (tableIn (drop 1 fr)) empty; cur = unset }) × (out ≡ answerLine (doneWith 0 0 0) [])
+  pub unfit : getD fr 0 0 ≡ 0 → (Accepted (tableIn (drop 1 fr)) → ⊥) → (s′ ≡ s) × (out ≡ answerLine (refusedWith 1) [])
+  pub early : (getD fr 0 0 ≡ 0 → ⊥) → s .table ≡ [] → (s′ ≡ s) × (out ≡ answerLine (refusedWith 1) [])
   pub called : (getD fr 0 0 ≡ 0 → ⊥) → (s .table ≡ [] → ⊥) → Answers s s′ fr out
 
 -- any line; a bad one prints FF
