@@ -1,7 +1,6 @@
 // STORE: decided on a shared file, then carried out.
 use crate::placing;
 use change::links;
-use change::moves;
 use ledger::Answer;
 use ledger::Currency;
 use looks::currency;
@@ -10,6 +9,7 @@ use model::Gap;
 use model::Places;
 use page::fields;
 use page::room;
+use records::moves;
 use table::keys;
 use table::sizes;
 use table::words;
