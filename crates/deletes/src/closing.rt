@@ -1,6 +1,6 @@
 // A deletion carried out: rings close over what is marked, then the marked records leave their pages.
-use crate::marks;
 use change::links;
+use doomed::marks;
 use page::fields;
 use records::moves;
 use table::words;

@@ -1,7 +1,7 @@
 use borrow.Author.Needs.{needs}
-use Rattle.deletes.proofs.Laws.Entries.{later-goes, later-stays}
-use Rattle.deletes.proofs.entries.later.Statement.{statement}
-use Rattle.deletes.proofs.entries.later.Tie as tie
+use Rattle.doomed.proofs.Laws.Entries.{later-goes, later-stays}
+use Rattle.doomed.proofs.entries.later.Statement.{statement}
+use Rattle.doomed.proofs.entries.later.Tie as tie
 
 pub later-spec : {M : Type 1} → statement M
 later-spec = tie.close (tie.spec

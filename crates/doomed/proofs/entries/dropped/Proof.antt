@@ -1,8 +1,8 @@
 use borrow.Author.Needs.{needs}
 use Rattle.delete_model.specs.Entries.{droppedIn}
-use Rattle.deletes.proofs.Laws.Entries.{later-goes, later-stays}
-use Rattle.deletes.proofs.entries.dropped.Statement.{statement}
-use Rattle.deletes.proofs.entries.dropped.Tie as tie
+use Rattle.doomed.proofs.Laws.Entries.{later-goes, later-stays}
+use Rattle.doomed.proofs.entries.dropped.Statement.{statement}
+use Rattle.doomed.proofs.entries.dropped.Tie as tie
 
 pub dropped-spec : {M : Type 1} → statement M
 unfolding droppedIn

@@ -1,7 +1,7 @@
 use borrow.Author.Needs.{needs}
-use Rattle.deletes.proofs.Laws.Entries.{backed-none, backed-stays, backed-lost, backed-walked}
-use Rattle.deletes.proofs.entries.backed.Statement.{statement}
-use Rattle.deletes.proofs.entries.backed.Tie as tie
+use Rattle.doomed.proofs.Laws.Entries.{backed-none, backed-stays, backed-lost, backed-walked}
+use Rattle.doomed.proofs.entries.backed.Statement.{statement}
+use Rattle.doomed.proofs.entries.backed.Tie as tie
 
 pub backed-spec : {M : Type 1} → statement M
 backed-spec =

@@ -3,9 +3,9 @@ use mathlib.Core.Path.{_≡_}
 use Rattle.model.specs.Reads.{nextIn}
 use Rattle.delete_model.specs.Marks.{goesIn}
 use Rattle.delete_model.specs.Entries.{stayFrom, stayIn}
-use Rattle.deletes.proofs.Laws.Entries.{stay-out, stay-here, stay-next}
-use Rattle.deletes.proofs.entries.stay_before.Statement.{statement}
-use Rattle.deletes.proofs.entries.stay_before.Tie as tie
+use Rattle.doomed.proofs.Laws.Entries.{stay-out, stay-here, stay-next}
+use Rattle.doomed.proofs.entries.stay_before.Statement.{statement}
+use Rattle.doomed.proofs.entries.stay_before.Tie as tie
 
 abbrev Inv-loop : tie.InvT-loop
 Inv-loop table file marks j m code best₀ at₀ left₀ best at left = stayFrom (nextIn table file j) (goesIn marks) code best at left ≡ stayIn table file marks j m code

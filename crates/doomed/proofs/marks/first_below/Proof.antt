@@ -1,9 +1,9 @@
 use borrow.Author.Needs.{needs}
 use mathlib.Core.Path.{_≡_, refl}
 use Rattle.delete_model.specs.Marks.{firstFrom, firstBelowIn}
-use Rattle.deletes.proofs.Laws.Marks.{below-out, below-past, below-here, below-next}
-use Rattle.deletes.proofs.marks.first_below.Statement.{statement}
-use Rattle.deletes.proofs.marks.first_below.Tie as tie
+use Rattle.doomed.proofs.Laws.Marks.{below-out, below-past, below-here, below-next}
+use Rattle.doomed.proofs.marks.first_below.Statement.{statement}
+use Rattle.doomed.proofs.marks.first_below.Tie as tie
 
 abbrev Inv-loop : tie.InvT-loop
 Inv-loop table file code kind j chain₀ left₀ chain left = firstFrom table file code kind chain left ≡ firstBelowIn table file code kind j

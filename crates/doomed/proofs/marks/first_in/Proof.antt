@@ -1,7 +1,7 @@
 use borrow.Author.Needs.{needs}
-use Rattle.deletes.proofs.Laws.Marks.{first-no-master, first-empty, first-some}
-use Rattle.deletes.proofs.marks.first_in.Statement.{statement}
-use Rattle.deletes.proofs.marks.first_in.Tie as tie
+use Rattle.doomed.proofs.Laws.Marks.{first-no-master, first-empty, first-some}
+use Rattle.doomed.proofs.marks.first_in.Statement.{statement}
+use Rattle.doomed.proofs.marks.first_in.Tie as tie
 
 pub first-in-spec : {M : Type 1} → statement M
 first-in-spec =

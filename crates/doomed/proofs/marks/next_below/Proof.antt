@@ -1,7 +1,7 @@
 use borrow.Author.Needs.{needs}
-use Rattle.deletes.proofs.Laws.Marks.{next-in-ring, next-past, next-chain}
-use Rattle.deletes.proofs.marks.next_below.Statement.{statement}
-use Rattle.deletes.proofs.marks.next_below.Tie as tie
+use Rattle.doomed.proofs.Laws.Marks.{next-in-ring, next-past, next-chain}
+use Rattle.doomed.proofs.marks.next_below.Statement.{statement}
+use Rattle.doomed.proofs.marks.next_below.Tie as tie
 
 pub next-below-spec : {M : Type 1} → statement M
 next-below-spec =

@@ -2,21 +2,21 @@ use borrow.Author.Needs.{needs}
 use mathlib.Core.Path.{_≡_}
 use lib.ListN.{length}
 use Rattle.delete_model.specs.Marks.{markFrom, belowOn, markedOn}
-use Rattle.deletes.proofs.Laws.Marks.{mark-first, mark-next, marked-already, marked-alone, marked-end, marked-out}
+use Rattle.doomed.proofs.Laws.Marks.{mark-first, mark-next, marked-already, marked-alone, marked-end, marked-out}
 use Prim.Native.Nat.{ℕ, _<_, _-_}
 use borrow.Fn.Kinds.{In}
 use borrow.Fn.PlainCycle.{Measures, is, falls, and}
-use Rattle.deletes.proofs.marks.mark_below.Reads as mark-below
-use Rattle.deletes.proofs.marks.mark_below.Kinds as mark-below-kinds
-use Rattle.deletes.proofs.marks.+mark_below.Lts-mark_below as mark-below-lts
-use Rattle.deletes.proofs.marks.first_below.Reads as first-below-reads
-use Rattle.deletes.proofs.marks.goes.Reads as goes-reads
-use Rattle.deletes.proofs.marks.next_below.Reads as next-below-reads
+use Rattle.doomed.proofs.marks.mark_below.Reads as mark-below
+use Rattle.doomed.proofs.marks.mark_below.Kinds as mark-below-kinds
+use Rattle.doomed.proofs.marks.+mark_below.Lts-mark_below as mark-below-lts
+use Rattle.doomed.proofs.marks.first_below.Reads as first-below-reads
+use Rattle.doomed.proofs.marks.goes.Reads as goes-reads
+use Rattle.doomed.proofs.marks.next_below.Reads as next-below-reads
 use Rattle.page.proofs.fields.kind_at.Reads as kind-at-reads
 use Rattle.page.proofs.writes.put_byte.Reads as put-byte-reads
 use Rattle.std.proofs.num.wrapping_add_u16.Reads as wrapping-add-u16-reads
-use Rattle.deletes.proofs.marks.+mark_below.{statement}
-use Rattle.deletes.proofs.marks.+mark_below.Tie.{close}
+use Rattle.doomed.proofs.marks.+mark_below.{statement}
+use Rattle.doomed.proofs.marks.+mark_below.Tie.{close}
 
 abbrev μ-mark-below : Measures 3 mark-below-kinds.ps ℕ
 μ-mark-below κs a = a .1 .1 .1 .0

@@ -1,7 +1,7 @@
 use borrow.Author.Needs.{needs}
 use Rattle.delete_model.specs.Marks.{goesIn}
-use Rattle.deletes.proofs.marks.goes.Statement.{statement}
-use Rattle.deletes.proofs.marks.goes.Tie as tie
+use Rattle.doomed.proofs.marks.goes.Statement.{statement}
+use Rattle.doomed.proofs.marks.goes.Tie as tie
 
 pub goes-spec : {M : Type 1} → statement M
 unfolding goesIn

@@ -4,9 +4,9 @@ use mathlib.Core.Path.{_≡_}
 use lib.ListN.{length}
 use Rattle.ledger.specs.Numbers.{byIndex}
 use Rattle.delete_model.specs.Entries.{backedIn}
-use Rattle.deletes.proofs.Laws.Entries.{changedFrom, changed-first, changed-next, changed-end}
-use Rattle.deletes.proofs.entries.chains_backed.Statement.{statement}
-use Rattle.deletes.proofs.entries.chains_backed.Tie as tie
+use Rattle.doomed.proofs.Laws.Entries.{changedFrom, changed-first, changed-next, changed-end}
+use Rattle.doomed.proofs.entries.chains_backed.Statement.{statement}
+use Rattle.doomed.proofs.entries.chains_backed.Tie as tie
 
 abbrev Inv-loop : tie.InvT-loop
 Inv-loop table file marks out₀ j₀ out j = (length out ≡ 16) × (changedFrom (λ j y. backedIn table file marks j y) out j ≡ byIndex (λ j y. backedIn table file marks j y) 0 out₀)

@@ -4,9 +4,9 @@ use mathlib.Core.Path.{_≡_}
 use lib.ListN.{length}
 use Rattle.ledger.specs.Numbers.{byIndex}
 use Rattle.delete_model.specs.Entries.{droppedIn}
-use Rattle.deletes.proofs.Laws.Entries.{changedFrom, changed-first, changed-next, changed-end}
-use Rattle.deletes.proofs.entries.types_dropped.Statement.{statement}
-use Rattle.deletes.proofs.entries.types_dropped.Tie as tie
+use Rattle.doomed.proofs.Laws.Entries.{changedFrom, changed-first, changed-next, changed-end}
+use Rattle.doomed.proofs.entries.types_dropped.Statement.{statement}
+use Rattle.doomed.proofs.entries.types_dropped.Tie as tie
 
 abbrev Inv-loop : tie.InvT-loop
 Inv-loop marks out₀ i₀ out i = (length out ≡ 16) × (changedFrom (λ i y. droppedIn marks y) out i ≡ byIndex (λ i y. droppedIn marks y) 0 out₀)

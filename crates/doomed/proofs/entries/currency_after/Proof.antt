@@ -1,7 +1,7 @@
 use borrow.Author.Needs.{needs}
-use Rattle.deletes.proofs.Laws.Entries.{currency-is}
-use Rattle.deletes.proofs.entries.currency_after.Statement.{statement}
-use Rattle.deletes.proofs.entries.currency_after.Tie as tie
+use Rattle.doomed.proofs.Laws.Entries.{currency-is}
+use Rattle.doomed.proofs.entries.currency_after.Statement.{statement}
+use Rattle.doomed.proofs.entries.currency_after.Tie as tie
 
 pub currency-after-spec : {M : Type 1} → statement M
 currency-after-spec = tie.close (tie.spec
