@@ -1,10 +1,9 @@
 // The audit: the first fault of a file, phase by phase, and where it is.
-use crate::calcs;
-use crate::chains;
-use crate::order;
-use crate::pages;
-use crate::twins;
 use model::Fault;
+use orders::order;
+use scan::pages;
+use sweeps::calcs;
+use sweeps::chains;
 ghost use mathlib.Core.Path.{_≡_};
 ghost use Rattle.audit_model.specs.Faults.{ringPlace, orderPlace, auditOn, faultNumber};
 
@@ -23,7 +22,7 @@ fn ring_place(table: &[u16], file: &[u8]) -> u32
 fn order_place(table: &[u16], file: &[u8]) -> u32
     ensures { λ r. ⌜ r ≡ orderPlace (now (table .entry)) (now (file .entry)) ⌝ }
 {
-    let twin = twins::twin_fault(table, file);
+    let twin = twins::twins::twin_fault(table, file);
     if twin == 0 {
         return order::order_fault(table, file);
     }

@@ -1,4 +1,3 @@
--- The laws behind the functions that change pages: one for each way out and each turn of a loop.
+-- The laws behind copies and links: one for each way out and each turn of a loop.
 pub mod Copies
 pub mod Links
-pub mod Moves

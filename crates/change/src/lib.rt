@@ -1,4 +1,3 @@
-// A file's pages, changed: links of rings, records put in and taken out, fresh pages.
+// A file's bytes, changed: words and parts copied in, links of rings.
 pub mod copies;
 pub mod links;
-pub mod moves;

@@ -1,5 +1,3 @@
 -- The laws behind a deletion's functions: one for each way out and each turn of a loop.
-pub mod Marks
-pub mod Entries
 pub mod Closing
 pub mod Deletes

@@ -1,8 +1,8 @@
 // A deletion carried out: rings close over what is marked, then the marked records leave their pages.
-use crate::marks;
 use change::links;
-use change::moves;
+use doomed::marks;
 use page::fields;
+use records::moves;
 use table::words;
 ghost use mathlib.Core.Path.{_≡_};
 ghost use Rattle.model.specs.Writes.{calcPut, joinedIn};

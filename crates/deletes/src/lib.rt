@@ -1,8 +1,8 @@
 // DELETE: the record and every detail below it are marked, then entries back up, rings close, and pages close up.
 pub mod closing;
-pub mod entries;
-pub mod marks;
 
+use doomed::entries;
+use doomed::marks;
 use ledger::Answer;
 use ledger::Currency;
 use ledger::Outcome;

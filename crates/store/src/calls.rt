@@ -1,10 +1,10 @@
 // The public calls: refusals 1 to 4, then the call's own work. Each comes back done, or refused with nothing changed.
 use crate::changes;
 use crate::checks;
-use change::moves;
 use ledger::Answer;
 use ledger::Currency;
 use ledger::Outcome;
+use records::moves;
 ghost use mathlib.Core.Path.{_≡_};
 ghost use mathlib.Core.List.{[], _∷_};
 ghost use Rattle.ledger.specs.Calls.{STORE, DIRECT, KEY, NEXT, PRIOR, MASTER, EACH, MODIFY, DELETE, CURRENT, FIND, RELINK, UNKNOWN};

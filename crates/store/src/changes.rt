@@ -1,13 +1,13 @@
 // STORE, RELINK and MODIFY, once refusals 1 to 4 are behind them: decided on a shared file, then carried out.
-use acts::modifying;
-use acts::placing;
-use acts::relinking;
-use acts::storing;
 use ledger::Answer;
 use ledger::Currency;
 use ledger::Outcome;
 use looks::currency;
+use modifies::modifying;
 use page::fields;
+use puts::placing;
+use puts::storing;
+use relinks::relinking;
 ghost use mathlib.Core.Path.{_≡_};
 ghost use Rattle.store_model.specs.Changes.{placedOn, storeOn, runArrival, relinkOn, modifyOn};
 

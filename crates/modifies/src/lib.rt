@@ -1,0 +1,2 @@
+// MODIFY: decided on a shared file, and carried out on a mutable one.
+pub mod modifying;

@@ -1,0 +1,3 @@
+// STORE: decided on a shared file, and carried out on a mutable one.
+pub mod placing;
+pub mod storing;
