@@ -24,7 +24,7 @@ use Rattle.place_laws.proofs.Sound.{sound-kind}
 use Rattle.place_laws.proofs.With.{Small, layout-with, own-held, own-small, with-kind, with-data, with-same}
 use Rattle.place_laws.proofs.NewData.{data-put}
 use Rattle.ring_model.specs.Rings.{keyTwinIn, masterIn, calcTwinIn}
-use Rattle.ring_laws.proofs.Members.{detail-in-chain, its-master}
+use Rattle.ring_laws.proofs.Rounds.{detail-in-chain, master-type}
 use Rattle.ring_laws.proofs.Masters.{sound-master}
 use Rattle.ring_laws.proofs.Found.{sound-key-twin, sound-calc-twin}
 use Rattle.act_model.specs.Modifying.{modifyTwin, modifyRefusal, calcMovesIn, calcRejoined, rejoinedAll, dataPut, modifiedOn}
@@ -126,7 +126,7 @@ module _ (t f : List ℕ) (l : Ledger) (a : Accepted t) (s : Sound t f l) where
       let inside = ltb-true _ _ lt in
       let i = detail-in-chain t j _ below in
       rw (sound-master t f l a s j x inside i)
-      (sound-key-twin t f l a s j (masterOf t l j x) inside (its-master t f l a s j x inside i) (sortKey t j (kindAt l x) d) x))
+      (sound-key-twin t f l a s j (masterOf t l j x) inside (master-type t l a (s .formed) j x inside i) (sortKey t j (kindAt l x) d) x))
 
   pub modify-turn : (cur : Currency) → InForce t l cur → (d : List ℕ) → modify t l cur d
       ≡ cond (eqb (modifyRefusal t f (cur .run) d) 0) (arrive t (modified t l (cur .run) d) cur (cur .run) 0) (refuse (modifyRefusal t f (cur .run) d))
