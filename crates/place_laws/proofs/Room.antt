@@ -90,12 +90,9 @@ module _ (t f : List ℕ) (r : ℕ → List ℕ) (h : ℕ → ℕ) (a : Accepted
   unfolding pageIn
   image-page-in = rw (ne-eqb p 0 (λ z. omega arith)) (image-page t f r h a i p lo hi)
 
-  -- its free bytes and its line flags
+  -- its free bytes
   pub image-free : twoAt (pageIn f p) 3 ≡ free r p
   image-free = rw image-page-in (free-read r h p)
-
-  pub image-flags : flagsAt (pageIn f p) ≡ flags r p
-  image-flags = rw image-page-in (flags-read r h p)
 
   -- its lowest line without a record, 0 where all have one, and where that line's record would start
   pub image-gap : firstGap (pageIn f p) .line ≡ firstOf (λ k. eqb (length (r (codeOf p k))) 0) (run 1 63)

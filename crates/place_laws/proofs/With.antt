@@ -16,7 +16,7 @@ use Rattle.ledger.specs.Image.{kindRead, dataRead, nextRead, priorRead, Paged, 
 use Rattle.ledger.proofs.Lists.Tests.{byCases, clash}
 use Rattle.ledger.proofs.Lists.Digits.{part-two, part-three}
 use Rattle.ledger.proofs.Bytes.Writes.{used-same, laid-same}
-use Rattle.ledger.proofs.Ledger.Entries.{absent-none, absent-kind, placed-as}
+use Rattle.ledger.proofs.Ledger.Entries.{absent-none, absent-kind}
 use Rattle.ledger.proofs.Ledger.Rows.{kind-within, size-least, code-listed, listed-small}
 use Rattle.ledger.proofs.Ledger.Bounds.{next-small, prior-small, calc-next-small, head-next-small, homeOf-within}
 use Rattle.ledger.proofs.Ledger.Records.{absent-with, record-length, kind-part, data-part, calc-part, next-part, prior-part, formed-with, record-sized}
@@ -62,19 +62,6 @@ with-chain t l a j x lt c = byCases (present l x)
 -- and three bytes hold its code
 pub held-small : (t : List ℕ) (l : Ledger) → Accepted t → Held t l → (x : ℕ) → present l x ≡ true → x < 16777216
 held-small t l a w x e = omega (arith, listed-small t x (code-listed t l x a (w .placed x e)), a .page-count .1)
-
--- records of the same types, in the same places, have the same room
-pub held-as : (t : List ℕ) (l l′ : Ledger) → Held t l → ((x : ℕ) → present l′ x ≡ true → Placed t l′ x)
-    → ((x : ℕ) → present l′ x ≡ present l x) → ((x : ℕ) → kindAt l′ x ≡ kindAt l x) → Held t l′
-held-as t l l′ w placed same kind =
-    let lengths : (x : ℕ) → length (recordBytes t l′ x) ≡ length (recordBytes t l x) = λ x.
-    record-sized t l′ x (λ e. placed x e .full) ∙ rw (same x, kind x) (sym (record-sized t l x (λ e. w .placed x e .full))) in
-    record { placed = placed; room = λ p. rw (used-same (recordBytes t l) (recordBytes t l′) p (λ k lo hi. lengths (codeOf p k))) (w .room p) }
-
--- so rings do not matter
-pub held-same : (t : List ℕ) (l l′ : Ledger) → ((x : ℕ) → l .at x ≡ l′ .at x) → Held t l → Held t l′
-held-same t l l′ same w =
-    held-as t l l′ w (λ x e. placed-as t l l′ x (sym (same x)) (w .placed x (rw (same x) e))) (λ x. rw (same x)) (λ x. rw (same x))
 
 -- A file is told by its records and by the links that they have.
 pub with-same : (t : List ℕ) (l l′ : Ledger) (nx nx′ pr pr′ : ℕ → ℕ → ℕ) (cn cn′ hd hd′ : ℕ → ℕ) → ((x : ℕ) → l .at x ≡ l′ .at x)

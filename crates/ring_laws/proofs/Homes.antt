@@ -7,12 +7,12 @@ use native.Mathlib.Omega.{arith}
 use native.Mathlib.Numerals.{add-one}
 use lib.Dec.{eqb}
 use lib.ListN.{length, length-append}
-use borrow.Author.Tests.{ne-eqb, not-true}
+use borrow.Author.Tests.{not-true}
 use Rattle.ledger.specs.Numbers.{elem, once, firstOf, placeFrom, lastOr, follower}
 use Rattle.ledger.specs.Pages.{round}
 use Rattle.ledger.specs.Walks.{Agrees}
-use Rattle.ledger.proofs.Lists.Tests.{byCases, same-or-not, clash, eqb-same}
-use Rattle.ledger.proofs.Lists.Members.{elem-here, elem-there, elem-tail, elem-past, elem-append, split-at-member}
+use Rattle.ledger.proofs.Lists.Tests.{byCases, same-or-not, eqb-same}
+use Rattle.ledger.proofs.Lists.Members.{others, elem-here, elem-there, elem-tail, elem-past, elem-append, split-at-member}
 use Rattle.ledger.proofs.Lists.Pairs.{once-right}
 use Rattle.ledger.proofs.Lists.Followers.{before-in, before-first}
 use Rattle.ledger.proofs.Audit.Walks.{Home, agrees-home}
@@ -26,10 +26,6 @@ home-as nx nx′ det det′ m x [] own h = h
 home-as nx nx′ det det′ m x (y ∷ ys) own h =
     let (e, d) = own y (elem-here y ys) in
     (h .0, d, rw e (home-as nx nx′ det det′ m (nx y) ys (λ z i. own z (elem-tail z y ys i)) (h .2)))
-
--- the members of a list are other than a number that is not in it
-pub others : (c : ℕ) (xs : List ℕ) → elem c xs ≡ false → (y : ℕ) → elem y xs ≡ true → not (eqb y c) ≡ true
-others c xs off y e = rw (ne-eqb y c (λ i. clash (elem c xs) (rw i at e) off))
 
 module _ (nx : ℕ → ℕ) (det : ℕ → Bool) where
   -- the way to a member, and from it on

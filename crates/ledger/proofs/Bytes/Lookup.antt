@@ -12,7 +12,7 @@ use borrow.Author.Tests.{eq-eqb, ne-eqb, eqb-true, eqb-false, le-leb, lt-leb}
 use Rattle.ledger.specs.Pages.{codeOf, pageOf, lineOf, page, used}
 use Rattle.ledger.specs.Bytes.{startOf, sizeAt, twoAt, lineAt, Formed, lookup}
 use Rattle.ledger.proofs.Lists.Tests.{byCases}
-use Rattle.ledger.proofs.Bytes.Places.{start-first, start-next, record-part, record-byte, record-inside, free-byte}
+use Rattle.ledger.proofs.Bytes.Places.{start-least, start-first, start-next, record-part, record-byte, record-inside, free-byte}
 
 module _ (end : ℕ) (f : List ℕ) (at line : ℕ) where
   pub lookup-stop : (fuel : ℕ) → sizeAt f at ≡ 0 → lookup end fuel f at line ≡ 0
@@ -128,10 +128,6 @@ module _ (r : ℕ → List ℕ) (h : ℕ → ℕ) (p : ℕ) (fits : used r p ≤
 
     pub lookup-none : (fuel : ℕ) → r (codeOf p k) ≡ [] → lookup end fuel (page r h p) 16 k ≡ 0
     lookup-none fuel no-record = rw (start-first r p) at (none-from 63 1 fuel refl (omega arith) no-record)
-
-start-least : (r : ℕ → List ℕ) (p k : ℕ) → 16 ≤ startOf r p k
-unfolding startOf
-start-least r p k = omega arith
 
 -- A page tells the bytes of its records.
 module _ (r r′ : ℕ → List ℕ) (h h′ : ℕ → ℕ) (p : ℕ) (fits : used r p ≤ 496) (fits′ : used r′ p ≤ 496)

@@ -60,10 +60,6 @@ module _ (r r′ : ℕ → List ℕ) (p k : ℕ) (low : 1 ≤ k) (high : k ≤ 6
   unfolding after
   after-same = concatOf-same (λ j. r (codeOf p j)) _ (suc k) (64 - suc k) (λ j lo hi. same (codeOf p j) (λ e. omega arith))
 
-  pub start-same : startOf r′ p k ≡ startOf r p k
-  unfolding startOf
-  start-same = rw before-same
-
 module _ (r r′ : ℕ → List ℕ) (h : ℕ → ℕ) (p k : ℕ) (low : 1 ≤ k) (high : k ≤ 63)
     (same : (y : ℕ) → y ≢ codeOf p k → r′ y ≡ r y) where
   pub other-page : (q : ℕ) → q ≢ p → page r′ h q ≡ page r h q
