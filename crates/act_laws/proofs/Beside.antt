@@ -21,10 +21,12 @@ use Rattle.ledger.proofs.Ledger.Rings.{chained, absent-no-ring, next-master, pr
 use Rattle.ledger.proofs.Ledger.Inserted.{chained-in, next-new, prior-new, next-before, prior-after, next-else, prior-else}
 use Rattle.ledger.proofs.Keeps.Stored.{occurrence-there, stored-at-else, stored-ring-else, stored-inserted}
 use Rattle.place_laws.proofs.With.{with-chain}
+use Rattle.ring_laws.proofs.Masters.{sound-occurrence}
 use Rattle.ring_laws.proofs.Rounds.{master-chain, all-in-chain}
 use Rattle.ring_laws.proofs.Between.{sound-between-new}
+use Rattle.act_model.specs.Placing.{occurrenceIn}
 use Rattle.act_model.specs.Storing.{lacksCurrent, gapIn}
-use Rattle.act_laws.proofs.Places.{has-current, sound-occurrence}
+use Rattle.act_laws.proofs.Places.{has-current}
 use Rattle.act_laws.proofs.Entered.{Fitting, new-kind}
 
 -- chain j of l′ is that of l, with x between b and c
@@ -108,11 +110,11 @@ module _ (t f : List ℕ) (l : Ledger) (a : Accepted t) (s : Sound t f l) (cur :
 
     -- it is between the two that are found in the file
     pub beside : (j : ℕ) → j < chains t → inChain t j n ≡ true → Beside t l after x j (gapIn t f cur n d x j .before) (gapIn t f cur n d x j .after)
-    unfolding gapIn inChain
+    unfolding gapIn occurrenceIn inChain
     beside j lt own = byCases (isDetail t j n)
         (λ low.
         let here = has-current t cur n j none lt low in
         let top = occurrence-there t l cur a (s .formed) force j here .1 in
-        rw (low, sound-occurrence t f l a s cur force j here, sound-between-new t f l a s j (occurrence t l cur j) lt top (sortKey t j n d) x)
+        rw (low, sound-occurrence t f l cur a s force j here, sound-between-new t f l a s j (occurrence t l cur j) lt top (sortKey t j n d) x)
         (beside-detail j lt low))
         (λ low. rw low (beside-master j (rw (low, or-false (isMaster t j n)) at own) low))

@@ -1,7 +1,7 @@
 -- Where STORE places a record in a sound file: the page and the line that the ledger says.
 use Prim.Native.Nat.{ℕ, _-_, _%_, _≤_, _<_}
 use mathlib.Core.Path.{_≡_, _∙_}
-use mathlib.Core.Logic.{_≢_, _⊎_, inl, inr}
+use mathlib.Core.Logic.{_≢_}
 use mathlib.Core.Bool.{true, false, not}
 use mathlib.Core.List.{List}
 use native.Mathlib.Omega.{arith}
@@ -10,9 +10,9 @@ use lib.Dec.{eqb}
 use borrow.Author.Tests.{eqb-true, eqb-false, eq-eqb, ne-eqb}
 use Rattle.ledger.specs.declared.Currency.{Currency}
 use Rattle.ledger.specs.Numbers.{run}
-use Rattle.ledger.specs.Table.{pages, chains, via, class, row, defined, isDetail, inChain, Accepted}
+use Rattle.ledger.specs.Table.{pages, chains, via, class, row, defined, isDetail, Accepted}
 use Rattle.ledger.specs.Pages.{codeOf, recordSize, Ledger, kindAt, present, recordBytes, Sound}
-use Rattle.ledger.specs.Currency.{chainCurrent, occurrence, InForce}
+use Rattle.ledger.specs.Currency.{chainCurrent, InForce}
 use Rattle.ledger.specs.Calls.{basePage, freeLine, takes, tried, placeFor}
 use Rattle.ledger.proofs.Lists.Tests.{byCases}
 use Rattle.ledger.proofs.Lists.Members.{none-any}
@@ -24,7 +24,7 @@ use Rattle.ledger.proofs.Keeps.Placing.{Taking, tried-in-range, base-in-range, 
 use Rattle.model.specs.Reads.{pageIn}
 use Rattle.model.specs.Room.{firstGap}
 use Rattle.place_laws.proofs.Room.{image-free, image-gap}
-use Rattle.ring_laws.proofs.Masters.{sound-master}
+use Rattle.ring_laws.proofs.Masters.{sound-occurrence}
 use Rattle.act_model.specs.Placing.{occurrenceIn, inRange, basePageIn, takesIn, placeForIn}
 use Rattle.act_model.specs.Storing.{lacksCurrent, storedCode}
 
@@ -51,16 +51,6 @@ module _ (t f : List ℕ) (l : Ledger) (a : Accepted t) (s : Sound t f l) where
   sound-takes n p lo hi = rw (image-free t f _ _ a (sound-imaged t f l a s) p lo hi, sound-line p lo hi)
 
   module _ (cur : Currency) (i : InForce t l cur) where
-    -- a chain's occurrence
-    pub sound-occurrence : (j : ℕ) → chainCurrent cur j ≢ 0 → occurrenceIn t f cur j ≡ occurrence t l cur j
-    unfolding occurrenceIn occurrence
-    sound-occurrence j m = go (i .chain-right j)
-      where
-        go : (chainCurrent cur j ≡ 0) ⊎ ((j < chains t) × (inChain t j (kindAt l (chainCurrent cur j)) ≡ true))
-            → occurrenceIn t f cur j ≡ occurrence t l cur j
-        go (inl e) = absurd (m e)
-        go (inr q) = sound-master t f l a s j (chainCurrent cur j) (q .0) (q .1)
-
     module _ (n : ℕ) (d : List ℕ) (e : defined t n ≡ true) where
       module _ (none : lacksCurrent t cur n ≡ false) where
         via-current : class t (row t n) ≡ 1 → chainCurrent cur (via t (row t n)) ≢ 0
@@ -69,11 +59,11 @@ module _ (t f : List ℕ) (l : Ledger) (a : Accepted t) (s : Sound t f l) where
             has-current t cur n (via t (row t n)) none lt (unfold isDetail in eq-eqb _ n (own ∙ row-number t n e))
 
         pub sound-base : basePageIn t f cur n d ≡ basePage t l cur n d
-        unfolding basePageIn inRange basePage
+        unfolding basePageIn occurrenceIn inRange basePage
         sound-base = byCases (eqb (class t (row t n)) 2)
             (λ c. rw c)
             (λ c. byCases (eqb (class t (row t n)) 1)
-            (λ g. rw (c, g, sound-occurrence (via t (row t n)) (via-current (eqb-true _ _ g))))
+            (λ g. rw (c, g, sound-occurrence t f l cur a s i (via t (row t n)) (via-current (eqb-true _ _ g))))
             (λ g. rw (c, g)))
 
         -- the page that takes the record

@@ -26,7 +26,7 @@ use Rattle.ledger.proofs.Ledger.Bounds.{present-some}
 use Rattle.ledger.proofs.Keeps.Stored.{occurrence-there}
 use Rattle.model.specs.Reads.{kindIn, nextIn}
 use Rattle.ring_model.specs.Rings.{masterIn, beforeIn}
-use Rattle.ring_laws.proofs.Masters.{sound-master}
+use Rattle.ring_laws.proofs.Masters.{sound-master, sound-occurrence}
 use Rattle.ring_laws.proofs.Before.{sound-before}
 use Rattle.ring_laws.proofs.Found.{foundOf, sound-key-found, sound-calc-found}
 use Rattle.look_model.specs.Currencies.{arrival}
@@ -78,10 +78,6 @@ module _ (t f : List ℕ) (l : Ledger) (cur : Currency) (a : Accepted t) (s : So
   -- a chain's current record is in the chain
   in-chain : (j : ℕ) → chainCurrent cur j ≢ 0 → inChain t j (kindAt l (chainCurrent cur j)) ≡ true
   in-chain j some = elim (i .chain-right j) [ inl z ↦ absurd (some z) | inr q ↦ q .1 ]
-
-  pub sound-occurrence : (j : ℕ) → j < chains t → chainCurrent cur j ≢ 0 → masterIn t f j (chainCurrent cur j) ≡ occurrence t l cur j
-  unfolding occurrence
-  sound-occurrence j lt some = sound-master t f l a s j (chainCurrent cur j) lt (in-chain j some)
 
   -- from the chain's current record to another of its ring
   along-told : (read : List ℕ → List ℕ → ℕ → ℕ → ℕ) (step : List ℕ → Ledger → ℕ → ℕ → ℕ)
@@ -135,7 +131,7 @@ module _ (t f : List ℕ) (l : Ledger) (cur : Currency) (a : Accepted t) (s : So
       rw (
         lt,
         some,
-        sound-occurrence j (leb-false _ _ lt) (eqb-false _ _ some),
+        sound-occurrence t f l cur a s i j (eqb-false _ _ some),
         sound-key-found t f l a s j (occurrence t l cur j) (leb-false _ _ lt) (m .1) k 0,
         found-told (λ y. sameKey (keyIn t l j y) k) (λ y. not (eqb y 0) && sameKey (keyIn t l j y) k) (l .ring j (occurrence t l cur j))
             (λ y h. present-some t l y (s .formed) (s .formed .ring-own j _ y h .3))
