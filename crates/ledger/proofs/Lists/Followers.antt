@@ -66,10 +66,15 @@ headOr-reverse d (x ∷ xs) = rw (reverse-cons x xs, headOr-append d x (reverse 
 pub lastOr-reverse : (d : ℕ) (xs : List ℕ) → lastOr d (reverse xs) ≡ headOr d xs
 lastOr-reverse d xs = rw (← headOr-reverse d (reverse xs), reverse-reverse xs)
 
+-- the last is that of the second part
+pub lastOr-past : (d x : ℕ) (xs ys : List ℕ) → lastOr d (xs ++ x ∷ ys) ≡ lastOr x ys
+unfolding lastOr
+lastOr-past d x [] ys = refl
+lastOr-past d x (z ∷ xs) ys = lastOr-past z x xs ys
+
 pub lastOr-append : (d x : ℕ) (xs : List ℕ) → lastOr d (xs ++ (x ∷ [])) ≡ x
 unfolding lastOr
-lastOr-append d x [] = refl
-lastOr-append d x (y ∷ xs) = lastOr-append y x xs
+lastOr-append d x xs = lastOr-past d x xs []
 
 -- the element before
 pub before-in : (m x : ℕ) (ys zs : List ℕ) → x ≢ m → elem x zs ≡ false → follower x (round m (reverse (ys ++ x ∷ zs))) ≡ lastOr m ys
