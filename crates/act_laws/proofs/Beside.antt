@@ -1,31 +1,32 @@
 -- The links of the ledger that STORE leaves: in each chain of the new record those of the ledger before, but beside it.
 use Prim.Native.Nat.{ℕ, _<_}
-use mathlib.Core.Path.{_≡_, sym, _∙_}
+use mathlib.Core.Path.{_≡_, _∙_}
 use mathlib.Core.Logic.{_≢_}
 use mathlib.Core.Bool.{true, false, _&&_, and-false, or-false}
 use mathlib.Core.List.{List, []}
 use lib.Dec.{ltb}
 use Rattle.ledger.specs.declared.Currency.{Currency}
-use Rattle.ledger.specs.Numbers.{elem, headOr, lastOr}
+use Rattle.ledger.specs.Numbers.{headOr, lastOr}
 use Rattle.ledger.specs.Table.{chains, isMaster, isDetail, inChain, sortKey, Accepted}
-use Rattle.ledger.specs.Pages.{codeOf, Ledger, kindAt, present, codes, nextOf, priorOf, Sound}
+use Rattle.ledger.specs.Pages.{codeOf, Ledger, kindAt, present, nextOf, priorOf, Sound}
 use Rattle.ledger.specs.Currency.{occurrence, InForce}
 use Rattle.ledger.specs.Calls.{stops, stored}
-use Rattle.ledger.proofs.Lists.Tests.{byCases, same-or-not, clash}
+use Rattle.ledger.proofs.Lists.Tests.{byCases, clash}
 use Rattle.ledger.proofs.Lists.Members.{no-members}
-use Rattle.ledger.proofs.Lists.Pairs.{once-put}
 use Rattle.ledger.proofs.Lists.Puts.{Stopped, stopped}
 use Rattle.ledger.proofs.Lists.Followers.{head-member, last-member}
 use Rattle.ledger.proofs.Ledger.Entries.{absent-kind}
 use Rattle.ledger.proofs.Ledger.Rows.{code-listed, none-no-master}
-use Rattle.ledger.proofs.Ledger.Rings.{Chained, chained, absent-no-ring, next-master, prior-master, next-same, prior-same}
-use Rattle.ledger.proofs.Ledger.Inserted.{Inserted, member-else, next-new, prior-new, next-before, prior-after, next-else, prior-else}
+use Rattle.ledger.proofs.Ledger.Rings.{chained, absent-no-ring, next-master, prior-master, next-same, prior-same}
+use Rattle.ledger.proofs.Ledger.Inserted.{chained-in, next-new, prior-new, next-before, prior-after, next-else, prior-else}
 use Rattle.ledger.proofs.Keeps.Stored.{occurrence-there, stored-at-else, stored-ring-else, stored-inserted}
-use Rattle.place_laws.proofs.Sound.{chain-there}
-use Rattle.ring_laws.proofs.Members.{master-chain, ring-in-chain}
+use Rattle.place_laws.proofs.With.{with-chain}
+use Rattle.ring_laws.proofs.Masters.{sound-occurrence}
+use Rattle.ring_laws.proofs.Rounds.{master-chain, all-in-chain}
 use Rattle.ring_laws.proofs.Between.{sound-between-new}
+use Rattle.act_model.specs.Placing.{occurrenceIn}
 use Rattle.act_model.specs.Storing.{lacksCurrent, gapIn}
-use Rattle.act_laws.proofs.Places.{has-current, sound-occurrence}
+use Rattle.act_laws.proofs.Places.{has-current}
 use Rattle.act_laws.proofs.Entered.{Fitting, new-kind}
 
 -- chain j of l′ is that of l, with x between b and c
@@ -38,35 +39,6 @@ pub record Beside (t : List ℕ) (l l′ : Ledger) (x j b c : ℕ) : Type 0 wher
   pub prior-else : (y : ℕ) → y ≢ x → y ≢ c → priorOf t l′ j y ≡ priorOf t l j y
   pub before-in : inChain t j (kindAt l′ b) ≡ true
   pub after-in : inChain t j (kindAt l′ c) ≡ true
-
--- a chain's rings with one member more
-module _ (t : List ℕ) (l l′ : Ledger) (j m x : ℕ) (ys zs : List ℕ) (c : Chained t l j) (s : Inserted t l l′ j m x ys zs)
-    (off : (k : ℕ) → elem x (l .ring j k) ≡ false) (listed : elem m (codes t) ≡ true)
-    (top : isMaster t j (kindAt l m) ≡ true) (low : isMaster t j (kindAt l x) ≡ false) where
-  only-there : (k : ℕ) → elem x (l′ .ring j k) ≡ true → k ≡ m
-  only-there k h = same-or-not k m (λ e. e) (λ n. clash _ (rw (s .others k n) at h) (off k))
-
-  was-member : (k y : ℕ) → y ≢ x → elem y (l′ .ring j k) ≡ true → elem y (l .ring j k) ≡ true
-  was-member k y n h = sym (member-else t l l′ j m x ys zs s y k n) ∙ h
-
-  pub chained-in : Chained t l′ j
-  chained-in = record {
-    ones = λ k. same-or-not k m
-        (λ e. rw (e, s .after) (once-put x ys zs (rw (s .before) at (off m)) (rw (s .before) at (c .ones m))))
-        (λ n. rw (s .others k n) (c .ones k));
-    listed = λ k y h. same-or-not y x
-        (λ e. rw (only-there k (rw e at h)) listed)
-        (λ n. c .listed k y (was-member k y n h));
-    above = λ k y h. rw (s .kinds k) (same-or-not y x
-        (λ e. rw (only-there k (rw e at h)) top)
-        (λ n. c .above k y (was-member k y n h)));
-    below = λ k y h. rw (s .kinds y) (same-or-not y x
-        (λ e. rw e low)
-        (λ n. c .below k y (was-member k y n h)));
-    one = λ k k′ y h h′. same-or-not y x
-        (λ e. only-there k (rw e at h) ∙ sym (only-there k′ (rw e at h′)))
-        (λ n. c .one k k′ y (was-member k y n h) (was-member k′ y n h′));
-  }
 
 module _ (t f : List ℕ) (l : Ledger) (a : Accepted t) (s : Sound t f l) (cur : Currency) (n : ℕ) (d : List ℕ) (p k : ℕ) (g : Fitting t l n d p k) where
   abbrev x : ℕ
@@ -81,7 +53,7 @@ module _ (t f : List ℕ) (l : Ledger) (a : Accepted t) (s : Sound t f l) (cur :
   -- what was in a chain is in it
   still-in : (j y : ℕ) → j < chains t → inChain t j (kindAt l y) ≡ true → inChain t j (kindAt after y) ≡ true
   still-in j y lt e =
-      let ne : y ≢ x = λ q. clash _ (rw q at (chain-there t f l a s j y lt e)) fresh in
+      let ne : y ≢ x = λ q. clash _ (rw q at (with-chain t l a j y lt e)) fresh in
       rw (stored-at-else t l cur n d x y ne) e
 
   -- a chain of which the new record is no detail keeps its links
@@ -124,7 +96,7 @@ module _ (t f : List ℕ) (l : Ledger) (a : Accepted t) (s : Sound t f l) (cur :
         let put = stored-inserted t l cur n d x a fresh j lt low in
         let listed = code-listed t l m a (s .formed .placed m there) in
         let under : isMaster t j (kindAt l x) ≡ false = rw (absent-kind (l .at x) fresh) (none-no-master t j a lt) in
-        let c = chained-in t l after j m x (q .passed) (q .rest) (chained t l a (s .formed) j) put (absent-no-ring t l (s .formed) x fresh j) listed top under in
+        let c = chained-in t l after j m x (q .passed) (q .rest) put (chained t l a (s .formed) j) (absent-no-ring t l (s .formed) x fresh j) listed top under in
         record {
           next-new = next-new t l after j m x (q .passed) (q .rest) put c;
           prior-new = prior-new t l after j m x (q .passed) (q .rest) put c;
@@ -132,17 +104,17 @@ module _ (t f : List ℕ) (l : Ledger) (a : Accepted t) (s : Sound t f l) (cur :
           prior-after = prior-after t l after j m x (q .passed) (q .rest) put c;
           next-else = next-else t l after j m x (q .passed) (q .rest) put;
           prior-else = prior-else t l after j m x (q .passed) (q .rest) put;
-          before-in = still-in j _ lt (ring-in-chain t f l a s j m top _ (rw (← q .whole) at (last-member m (q .passed) (q .rest))));
-          after-in = still-in j _ lt (ring-in-chain t f l a s j m top _ (rw (← q .whole) at (head-member m (q .passed) (q .rest))));
+          before-in = still-in j _ lt (all-in-chain t l a (s .formed) j m top _ (rw (← q .whole) at (last-member m (q .passed) (q .rest))));
+          after-in = still-in j _ lt (all-in-chain t l a (s .formed) j m top _ (rw (← q .whole) at (head-member m (q .passed) (q .rest))));
         }
 
     -- it is between the two that are found in the file
     pub beside : (j : ℕ) → j < chains t → inChain t j n ≡ true → Beside t l after x j (gapIn t f cur n d x j .before) (gapIn t f cur n d x j .after)
-    unfolding gapIn inChain
+    unfolding gapIn occurrenceIn inChain
     beside j lt own = byCases (isDetail t j n)
         (λ low.
         let here = has-current t cur n j none lt low in
         let top = occurrence-there t l cur a (s .formed) force j here .1 in
-        rw (low, sound-occurrence t f l a s cur force j here, sound-between-new t f l a s j (occurrence t l cur j) lt top (sortKey t j n d) x)
+        rw (low, sound-occurrence t f l cur a s force j here, sound-between-new t f l a s j (occurrence t l cur j) lt top (sortKey t j n d) x)
         (beside-detail j lt low))
         (λ low. rw low (beside-master j (rw (low, or-false (isMaster t j n)) at own) low))

@@ -16,19 +16,19 @@ use Rattle.ledger.proofs.Lists.Tests.{same-or-not, update-same, update-other}
 use Rattle.ledger.proofs.Bytes.Writes.{used-same}
 use Rattle.ledger.proofs.Ledger.Entries.{placed-as}
 use Rattle.ledger.proofs.Ledger.Records.{record-sized}
-use Rattle.ledger.proofs.Ledger.Rows.{Within, size-least, size-small}
+use Rattle.ledger.proofs.Ledger.Rows.{range-within, Within, size-least, size-small}
 use Rattle.ledger.proofs.Keeps.Changes.{written-there, written-kind, written-bytes, written-placed}
 use Rattle.ledger.proofs.Keeps.Placing.{Taking}
 use Rattle.ledger.proofs.Keeps.Stored.{stored-at, stored-at-else}
 use Rattle.model.specs.Reads.{pageIn}
 use Rattle.model.specs.Room.{firstGap}
 use Rattle.model.specs.Moves.{putIn}
-use Rattle.place_laws.proofs.Sound.{sound-image}
+use Rattle.ledger.proofs.Image.Images.{sound-imaged}
 use Rattle.place_laws.proofs.Made.{recordMade, made-length, made-standing, made-with}
 use Rattle.place_laws.proofs.Moves.{record-in-image}
 use Rattle.place_laws.proofs.With.{Held, Small, own-held, own-small}
 use Rattle.place_laws.proofs.Written.{one-changed}
-use Rattle.act_laws.proofs.Places.{range-within, sound-line}
+use Rattle.act_laws.proofs.Places.{sound-line}
 
 -- a record of a type, with all its data, has a place: a page of the type's range with the room for it, and its lowest free line
 pub record Fitting (t : List ℕ) (l : Ledger) (n : ℕ) (d : List ℕ) (p k : ℕ) : Type 0 where
@@ -86,7 +86,7 @@ module _ (t f : List ℕ) (l : Ledger) (a : Accepted t) (s : Sound t f l) (cur :
   put-image =
       let (lo, hi) = range-within t n p a (g .typed) (g .within) in
       let line : firstGap (pageIn f p) .line ≡ k = sound-line t f l a s p lo hi ∙ g .lowest in
-      record-in-image t f _ _ a (sound-image t f l a s) p k n d (recordSize t n) lo hi (g .taking .first-line) (g .taking .last-line) line
+      record-in-image t f _ _ a (sound-imaged t f l a s) p k n d (recordSize t n) lo hi (g .taking .first-line) (g .taking .last-line) line
       (omega (arith, size-least t n, g .full)) (g .taking .room)
       (made-standing t p k n d a (g .typed) (g .within .0) (g .within .1) (g .taking .first-line) (g .taking .last-line) (g .full) (g .small))
 

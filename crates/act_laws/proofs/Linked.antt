@@ -17,7 +17,7 @@ use Rattle.ledger.specs.Calls.{stored}
 use Rattle.ledger.proofs.Lists.Tests.{byCases, same-or-not, both, clash, not-true-false, update-other}
 use Rattle.place_laws.proofs.With.{Small}
 use Rattle.place_laws.proofs.Written.{put2, put2-here, put2-chain, put2-code, linked-put, linked-small}
-use Rattle.ring_laws.proofs.Members.{detail-in-chain}
+use Rattle.ring_laws.proofs.Rounds.{detail-in-chain}
 use Rattle.model.specs.Reads.{pageIn}
 use Rattle.model.specs.Room.{firstGap}
 use Rattle.model.specs.Moves.{putIn}

@@ -2,20 +2,20 @@
 use Prim.Native.Nat.{ℕ}
 use mathlib.Core.Path.{_≡_, refl, sym, _∙_}
 use mathlib.Core.Logic.{_≢_}
-use mathlib.Core.Bool.{Bool, true, false, cond, not, _||_}
-use mathlib.Core.List.{List, [], _∷_}
+use mathlib.Core.Bool.{true, false, cond, not, _||_}
+use mathlib.Core.List.{List}
 use native.Mathlib.Omega.{arith}
 use lib.Dec.{eqb, ltb}
 use lib.ListN.{length}
 use borrow.Author.Tests.{eqb-true, eqb-false, ltb-true, not-false}
 use Rattle.ledger.specs.declared.Currency.{Currency}
-use Rattle.ledger.specs.Numbers.{elem, any}
+use Rattle.ledger.specs.Numbers.{any}
 use Rattle.ledger.specs.Table.{chains, row, dataLen, calculated, isDetail, calcKey, sortKey, Accepted}
 use Rattle.ledger.specs.Pages.{Ledger, kindAt, present, masterOf, nextOf, priorOf, calcNext, headNext, fileWith, layout, Sound}
 use Rattle.ledger.specs.Currency.{InForce}
 use Rattle.ledger.specs.Calls.{refuse, arrive, asDetail, twinIn, calcTwin, modified, modify}
 use Rattle.ledger.proofs.Lists.Tests.{byCases, both}
-use Rattle.ledger.proofs.Lists.Members.{elem-here, elem-tail}
+use Rattle.ledger.proofs.Lists.Members.{any-same}
 use Rattle.ledger.proofs.Ledger.Entries.{points-there}
 use Rattle.ledger.proofs.Ledger.Rows.{home-within, detail-chain}
 use Rattle.model.specs.Reads.{kindIn}
@@ -24,7 +24,7 @@ use Rattle.place_laws.proofs.Sound.{sound-kind}
 use Rattle.place_laws.proofs.With.{Small, layout-with, own-held, own-small, with-kind, with-data, with-same}
 use Rattle.place_laws.proofs.NewData.{data-put}
 use Rattle.ring_model.specs.Rings.{keyTwinIn, masterIn, calcTwinIn}
-use Rattle.ring_laws.proofs.Members.{detail-in-chain, its-master}
+use Rattle.ring_laws.proofs.Rounds.{detail-in-chain, master-type}
 use Rattle.ring_laws.proofs.Masters.{sound-master}
 use Rattle.ring_laws.proofs.Found.{sound-key-twin, sound-calc-twin}
 use Rattle.act_model.specs.Modifying.{modifyTwin, modifyRefusal, calcMovesIn, calcRejoined, rejoinedAll, dataPut, modifiedOn}
@@ -33,12 +33,6 @@ use Rattle.act_laws.proofs.ModifiedLedger.{modified-kind, modified-ther
 use Rattle.act_laws.proofs.ChainsModified.{Upto, rejoined-from}
 use Rattle.act_laws.proofs.CalcLinked.{CalcLinked, by-line, by-head, with-linked, linked-as}
 use Rattle.act_laws.proofs.CalcMoved.{calcLinks, calc-moved}
-
--- tests that say the same of each member
-any-same : (p q : ℕ → Bool) (xs : List ℕ) → ((y : ℕ) → elem y xs ≡ true → p y ≡ q y) → any p xs ≡ any q xs
-unfolding any
-any-same p q [] h = refl
-any-same p q (x ∷ xs) h = rw (h x (elem-here x xs), any-same p q xs (λ y e. h y (elem-tail y x xs e)))
 
 module _ (t f : List ℕ) (l : Ledger) (a : Accepted t) (s : Sound t f l) where
   module _ (x : ℕ) (d : List ℕ) (there : present l x ≡ true) where
@@ -126,7 +120,7 @@ module _ (t f : List ℕ) (l : Ledger) (a : Accepted t) (s : Sound t f l) where
       let inside = ltb-true _ _ lt in
       let i = detail-in-chain t j _ below in
       rw (sound-master t f l a s j x inside i)
-      (sound-key-twin t f l a s j (masterOf t l j x) inside (its-master t f l a s j x inside i) (sortKey t j (kindAt l x) d) x))
+      (sound-key-twin t f l a s j (masterOf t l j x) inside (master-type t l a (s .formed) j x inside i) (sortKey t j (kindAt l x) d) x))
 
   pub modify-turn : (cur : Currency) → InForce t l cur → (d : List ℕ) → modify t l cur d
       ≡ cond (eqb (modifyRefusal t f (cur .run) d) 0) (arrive t (modified t l (cur .run) d) cur (cur .run) 0) (refuse (modifyRefusal t f (cur .run) d))

@@ -2,22 +2,21 @@
 use Prim.Native.Nat.{ℕ, _<_}
 use mathlib.Core.Path.{_≡_, sym, _∙_}
 use mathlib.Core.Logic.{_≢_, inl, inr}
-use mathlib.Core.Bool.{true, false}
+use mathlib.Core.Bool.{true}
 use mathlib.Core.List.{List, _∷_}
 use Rattle.ledger.specs.Numbers.{elem, headOr, lastOr}
 use Rattle.ledger.specs.Table.{chains, isMaster, inChain, Accepted}
-use Rattle.ledger.specs.Pages.{Ledger, kindAt, codes, nextOf, priorOf, fileWith, WellFormed}
-use Rattle.ledger.proofs.Lists.Tests.{same-or-not, clash}
+use Rattle.ledger.specs.Pages.{Ledger, kindAt, nextOf, priorOf, fileWith, WellFormed}
+use Rattle.ledger.proofs.Lists.Tests.{same-or-not}
 use Rattle.ledger.proofs.Lists.Members.{elem-cases}
-use Rattle.ledger.proofs.Lists.Pairs.{once-put}
 use Rattle.ledger.proofs.Lists.Followers.{head-member, last-member}
 use Rattle.ledger.proofs.Ledger.Rows.{code-listed}
 use Rattle.ledger.proofs.Ledger.Rings.{Chained, chained}
-use Rattle.ledger.proofs.Ledger.Inserted.{Inserted, member-else, member-stays, member-new, next-else, prior-else, next-new, prior-new, next-before, prior-after, next-gap, prior-gap, chained-out, gone}
+use Rattle.ledger.proofs.Ledger.Inserted.{chained-in, Inserted, member-stays, member-new, next-else, prior-else, next-new, prior-new, next-before, prior-after, next-gap, prior-gap, chained-out, gone}
 use Rattle.model.specs.declared.Between.{Between}
 use Rattle.place_laws.proofs.With.{Held, Small, with-chain}
 use Rattle.place_laws.proofs.Written.{put2, put2-here, put2-chain, put2-code, joined-put, joined-small, linked-put, linked-small}
-use Rattle.ring_laws.proofs.Members.{master-chain, detail-in-chain}
+use Rattle.ring_laws.proofs.Rounds.{master-chain, detail-in-chain}
 use Rattle.act_model.specs.Relinking.{movedIn}
 
 -- NEXT and PRIOR of all chains once x has left its old place in chain j and stands in its new one
@@ -43,24 +42,6 @@ standsAt t l j x = record { before = priorOf t l j x; after = nextOf t l j x }
 
 abbrev pub gapAt : ℕ → List ℕ → List ℕ → Between
 gapAt m ys zs = record { before = lastOr m ys; after = headOr m zs }
-
--- x put into a ring that it was not in: the rings are rings again
-chained-in : (t : List ℕ) (l l′ : Ledger) (j m x : ℕ) (ys zs : List ℕ) → Inserted t l l′ j m x ys zs → Chained t l j
-    → ((k : ℕ) → elem x (l .ring j k) ≡ false) → elem m (codes t) ≡ true → isMaster t j (kindAt l m) ≡ true → isMaster t j (kindAt l x) ≡ false → Chained t l′ j
-chained-in t l l′ j m x ys zs s c out listed above below =
-    let only : (k : ℕ) → elem x (l′ .ring j k) ≡ true → k ≡ m = λ k h. same-or-not k m (λ e. e) (λ n. clash _ (rw (s .others k n) at h) (out k)) in
-    let old : (k y : ℕ) → y ≢ x → elem y (l′ .ring j k) ≡ true → elem y (l .ring j k) ≡ true =
-    λ k y n h. sym (member-else t l l′ j m x ys zs s y k n) ∙ h in record {
-      ones = λ k. same-or-not k m
-          (λ e. rw (e, s .after) (once-put x ys zs (rw (s .before) at (out m)) (rw (s .before) at (c .ones m))))
-          (λ n. rw (s .others k n) (c .ones k));
-      listed = λ k y h. same-or-not y x (λ e. rw (only k (rw e at h)) listed) (λ n. c .listed k y (old k y n h));
-      above = λ k y h. s .kinds k ∙ same-or-not y x (λ e. rw (only k (rw e at h)) above) (λ n. c .above k y (old k y n h));
-      below = λ k y h. s .kinds y ∙ same-or-not y x (λ e. rw e below) (λ n. c .below k y (old k y n h));
-      one = λ k n y h g. same-or-not y x
-          (λ e. only k (rw e at h) ∙ sym (only n (rw e at g)))
-          (λ i. c .one k n y (old k y i h) (old n y i g));
-    }
 
 -- Between l and l′ stands l⁻, in which x is in no ring of chain j: in l it is between ys⁻ and zs⁻ of m⁻, in l′ between ys and zs of m.
 module _ (t : List ℕ) (l⁻ l l′ : Ledger) (a : Accepted t) (w : WellFormed t l) (j x m⁻ : ℕ) (ys⁻ zs⁻ : List ℕ) (m : ℕ) (ys zs : List ℕ)

@@ -6,13 +6,14 @@ use mathlib.Core.Bool.{true}
 use mathlib.Core.List.{List}
 use Rattle.ledger.specs.Numbers.{without}
 use Rattle.ledger.specs.Table.{chains, isMaster, isDetail, inChain, Accepted}
-use Rattle.ledger.specs.Pages.{Ledger, kindAt, present, nextOf, priorOf, fileWith, WellFormed}
+use Rattle.ledger.specs.Pages.{Ledger, kindAt, nextOf, priorOf, fileWith, WellFormed}
 use Rattle.ledger.specs.Calls.{stops, joined}
 use Rattle.ledger.proofs.Lists.Puts.{Stopped, stopped}
 use Rattle.ledger.proofs.Ledger.Rings.{chained}
 use Rattle.ledger.proofs.Ledger.Inserted.{Inserted, inserted-without}
 use Rattle.model.specs.declared.Between.{Between}
-use Rattle.place_laws.proofs.With.{Held, Small}
+use Rattle.place_laws.proofs.With.{Held, Small, with-chain}
+use Rattle.ring_laws.proofs.Rounds.{detail-in-chain}
 use Rattle.act_model.specs.Relinking.{movedIn}
 use Rattle.act_laws.proofs.Moved.{nextMoved, priorMoved, standsAt, gapAt, moved-put, moved-small, moved-next, moved-prior}
 
@@ -22,7 +23,7 @@ gapFor t l j m key x = let p = stopped (stops t l j key) x (without x (l .ring j
 
 -- x goes out of every ring of chain j, and into that of m before the first that stops its key.
 module _ (t : List ℕ) (l l′ : Ledger) (a : Accepted t) (w : WellFormed t l) (j x m : ℕ) (key : List ℕ) (lt : j < chains t)
-    (there : present l x ≡ true) (below : isDetail t j (kindAt l x) ≡ true) (top : isMaster t j (kindAt l m) ≡ true)
+    (below : isDetail t j (kindAt l x) ≡ true) (top : isMaster t j (kindAt l m) ≡ true)
     (enters : l′ .ring j m ≡ joined t l j key x (without x (l .ring j m)))
     (leaves : (k : ℕ) → k ≢ m → l′ .ring j k ≡ without x (l .ring j k))
     (kinds : (y : ℕ) → isMaster t j (kindAt l′ y) ≡ isMaster t j (kindAt l y)) where
@@ -35,7 +36,7 @@ module _ (t : List ℕ) (l l′ : Ledger) (a : Accepted t) (w : WellFormed t l) 
 
   was-in : (m⁻ : ℕ) × (ys⁻ : List ℕ) × (zs⁻ : List ℕ) × Inserted t l⁻ l j m⁻ x ys⁻ zs⁻
   was-in =
-      let (m⁻, h) = w .ring-all j x lt there below in
+      let (m⁻, h) = w .ring-all j x lt (with-chain t l a j x lt (detail-in-chain t j _ below)) below in
       let (ys⁻, zs⁻, out) = inserted-without t l⁻ l j m⁻ x (chained t l a w j) h (λ k. refl) (λ y. refl) in
       (m⁻, ys⁻, zs⁻, out)
 

@@ -17,10 +17,10 @@ use Rattle.ledger.proofs.Ledger.Rings.{next-same, prior-same}
 use Rattle.model.specs.declared.Between.{Between}
 use Rattle.model.specs.Reads.{kindIn}
 use Rattle.model.specs.Keys.{sortKeyIn}
-use Rattle.place_laws.proofs.Sound.{sound-kind, sound-there, chain-there, sound-next, sound-sort-key}
+use Rattle.place_laws.proofs.Sound.{sound-kind, sound-there, sound-next, sound-sort-key}
 use Rattle.place_laws.proofs.With.{layout-with, own-held, own-small, with-same}
 use Rattle.ring_model.specs.Rings.{keyTwinIn}
-use Rattle.ring_laws.proofs.Members.{detail-in-chain}
+use Rattle.ring_laws.proofs.Rounds.{detail-in-chain}
 use Rattle.ring_laws.proofs.Before.{sound-before}
 use Rattle.ring_laws.proofs.Between.{sound-between}
 use Rattle.ring_laws.proofs.Found.{sound-key-twin}
@@ -72,9 +72,6 @@ module _ (t f : List ℕ) (l : Ledger) (a : Accepted t) (s : Sound t f l) where
     kinds : (y : ℕ) → isMaster t j (kindAt l′ y) ≡ isMaster t j (kindAt l y)
     kinds y = rw (← relinked-at t l j x m y)
 
-    there : present l x ≡ true
-    there = chain-there t f l a s j x lt (detail-in-chain t j _ below)
-
     -- where x stands and where it goes
     read-places : relinkedOn t f j x m ≡ movedIn t f j x (standsAt t l j x) gap
     unfolding relinkedOn standsIn
@@ -87,17 +84,17 @@ module _ (t f : List ℕ) (l : Ledger) (a : Accepted t) (s : Sound t f l) where
     written : movedIn t f j x (standsAt t l j x) gap ≡ fileWith t l nx′ pr′ (calcNext t l) (headNext t l)
     written =
         rw (s .bytes, layout-with t l)
-        (rejoined-put t l l′ a (s .formed) j x m (keyIn t l j x) lt there below top (relinked-enters t l j x m) (relinked-leaves t l j x m) kinds
+        (rejoined-put t l l′ a (s .formed) j x m (keyIn t l j x) lt below top (relinked-enters t l j x m) (relinked-leaves t l j x m) kinds
         (nextOf t l) (priorOf t l) (calcNext t l) (headNext t l) (own-held t l (s .formed)) (own-small t l a (s .formed)))
 
     nexts : (y : ℕ) → inChain t j (kindAt l y) ≡ true → nx′ j y ≡ nextOf t l′ j y
     nexts =
-        rejoined-next t l l′ a (s .formed) j x m (keyIn t l j x) lt there below top (relinked-enters t l j x m) (relinked-leaves t l j x m) kinds
+        rejoined-next t l l′ a (s .formed) j x m (keyIn t l j x) lt below top (relinked-enters t l j x m) (relinked-leaves t l j x m) kinds
         (nextOf t l) (priorOf t l) (calcNext t l) (headNext t l) (λ y c. refl)
 
     priors : (y : ℕ) → inChain t j (kindAt l y) ≡ true → pr′ j y ≡ priorOf t l′ j y
     priors =
-        rejoined-prior t l l′ a (s .formed) j x m (keyIn t l j x) lt there below top (relinked-enters t l j x m) (relinked-leaves t l j x m) kinds
+        rejoined-prior t l l′ a (s .formed) j x m (keyIn t l j x) lt below top (relinked-enters t l j x m) (relinked-leaves t l j x m) kinds
         (nextOf t l) (priorOf t l) (calcNext t l) (headNext t l) (λ y c. refl)
 
     -- the other chains keep theirs

@@ -13,14 +13,16 @@ use Rattle.ledger.specs.Table.{chains, row, dataLen, defined, isDetail, sortKey
 use Rattle.ledger.specs.Pages.{codeOf, Ledger, Sound}
 use Rattle.ledger.specs.Currency.{occurrence, InForce}
 use Rattle.ledger.specs.Calls.{refuse, unless, arrive, asDetail, twinIn, calcTwin, freeLine, placeFor, stored, store}
+use Rattle.ledger.proofs.Lists.Members.{any-same}
 use Rattle.ledger.proofs.Lists.Tests.{byCases, both}
 use Rattle.ledger.proofs.Ledger.Rows.{detail-chain}
 use Rattle.ledger.proofs.Keeps.Stored.{occurrence-there}
 use Rattle.ring_model.specs.Rings.{calcTwinIn}
+use Rattle.ring_laws.proofs.Masters.{sound-occurrence}
 use Rattle.ring_laws.proofs.Found.{sound-key-twin, sound-calc-twin}
-use Rattle.act_model.specs.Placing.{placeForIn}
+use Rattle.act_model.specs.Placing.{occurrenceIn, placeForIn}
 use Rattle.act_model.specs.Storing.{lacksCurrent, storeTwin, storeRefusal}
-use Rattle.act_laws.proofs.Places.{any-among, has-current, sound-occurrence, sound-place}
+use Rattle.act_laws.proofs.Places.{has-current, sound-place}
 
 -- what the refusal of none says
 pub store-clean : (t f : List ℕ) (cur : Currency) (n : ℕ) (d : List ℕ) → storeRefusal t f cur n d ≡ 0
@@ -40,13 +42,13 @@ module _ (t f : List ℕ) (l : Ledger) (a : Accepted t) (s : Sound t f l) (cur :
   -- a forbidden duplicate in a chain's occurrence
   sound-twin : lacksCurrent t cur n ≡ false
       → storeTwin t f cur n d ≡ any (λ j. twinIn t l j (occurrence t l cur j) (sortKey t j n d) 0) (asDetail t n)
-  unfolding storeTwin
-  sound-twin none = any-among _ _ (asDetail t n) (λ j e.
+  unfolding storeTwin occurrenceIn
+  sound-twin none = any-same _ _ (asDetail t n) (λ j e.
       let (lt, low) = both (ltb j (chains t)) (isDetail t j n) (sym (detail-chain t n j) ∙ e) in
       let inside = ltb-true j (chains t) lt in
       let here = has-current t cur n j none inside low in
       let top = occurrence-there t l cur a (s .formed) force j here .1 in
-      rw (sound-occurrence t f l a s cur force j here) (sound-key-twin t f l a s j (occurrence t l cur j) inside top (sortKey t j n d) 0))
+      rw (sound-occurrence t f l cur a s force j here) (sound-key-twin t f l a s j (occurrence t l cur j) inside top (sortKey t j n d) 0))
 
   -- what STORE comes to
   pub store-turn : let p = placeFor t l cur n d in let x = codeOf p (freeLine l p) in

@@ -16,8 +16,7 @@ use Rattle.ledger.specs.Audit.{Calced}
 use Rattle.ledger.proofs.Lists.Tests.{not-true-false, eqb-same}
 use Rattle.ledger.proofs.Lists.Members.{elem-run, any-some, some-any}
 use Rattle.ledger.proofs.Lists.Pairs.{once-run}
-use Rattle.ledger.proofs.Ledger.Rows.{home-within}
-use Rattle.ledger.proofs.Image.Paged.{standing-listed}
+use Rattle.ledger.proofs.Image.Paged.{home-bounds, standing-listed}
 use Rattle.ledger.proofs.Image.CalcRings.{head-only, homed, to-home, homes-calced, calced-home}
 use Rattle.audit_model.specs.Marks.{Sweep, noMarks, sweepOn}
 use Rattle.audit_model.specs.Calcs.{homeIn, headWalks, calcUnmetIn, calcFaultIn}
@@ -39,15 +38,11 @@ module _ (t f : List ℕ) (r : ℕ → List ℕ) (h : ℕ → ℕ) (a : Accepted
   pages-nonzero = not-true-false _ (λ e. omega (arith, page-within t f r h a i 0 e .0))
 
   -- the home of a calculated record
-  home-bounds : (x : ℕ) → 0 < length (r x) → (1 ≤ homeRead t (r x)) × (homeRead t (r x) ≤ pages t)
-  unfolding homeRead
-  home-bounds x some = home-within t (kindRead (r x)) _ a (i .paged .standing x some .typed)
-
   calc-home : (x : ℕ) → 0 < length (r x) → calculated t (kindRead (r x)) ≡ true → homeIn t f x ≡ homeRead t (r x)
-  calc-home x some calc = eqb-true _ _ (home-shown t f r h a i (homeRead t (r x)) x (home-bounds x some .0) ∙ to-home t r x some calc)
+  calc-home x some calc = eqb-true _ _ (home-shown t f r h a i (homeRead t (r x)) x (home-bounds t r a (i .paged) x some .0) ∙ to-home t r x some calc)
 
   pub calc-there : (x : ℕ) → 0 < length (r x) → calculated t (kindRead (r x)) ≡ true → homeIn t f x ≢ 0
-  calc-there x some calc z = omega (arith, calc-home x some calc, home-bounds x some .0)
+  calc-there x some calc z = omega (arith, calc-home x some calc, home-bounds t r a (i .paged) x some .0)
 
   pub home-calc : (x : ℕ) → homeIn t f x ≢ 0 → homedRead t r (homeIn t f x) x ≡ true
   home-calc x e = sym (home-shown t f r h a i (homeIn t f x) x (omega arith)) ∙ eqb-same (homeIn t f x)
@@ -68,7 +63,7 @@ module _ (t f : List ℕ) (r : ℕ → List ℕ) (h : ℕ → ℕ) (a : Accepted
       let p = homeIn t f x in
       let d = home-calc x (eqb-false _ _ (not-true _ e)) in
       let o = homed t r p x d in
-      let w = home-bounds x (o .0) in
+      let w = home-bounds t r a (i .paged) x (o .0) in
       let lo : 1 ≤ p = omega (arith, w .0, o .2) in
       let hi : p ≤ pages t = omega (arith, w .1, o .2) in
       let (m, q) = calced p lo hi .rings .every x d in

@@ -16,11 +16,12 @@ use Rattle.ledger.specs.Audit.{Ringed, Priors}
 use Rattle.ledger.proofs.Lists.Tests.{byCases, clash}
 use Rattle.ledger.proofs.Lists.Members.{any-some, some-any}
 use Rattle.ledger.proofs.Audit.Walks.{walked-master}
+use Rattle.ledger.proofs.Image.ChainRings.{details-listed, masters-listed}
 use Rattle.model.specs.Reads.{kindIn}
 use Rattle.audit_model.specs.Chains.{unmetIn, chainFaultIn, ringFaultIn}
 use Rattle.audit_laws.proofs.Marked.{codes-once, codes-nonzero, code-within}
 use Rattle.audit_laws.proofs.Sweeps.{Lost, Stray, sweep-fault, first-unmet}
-use Rattle.audit_laws.proofs.ChainWalks.{WayHome, chain-walks, details-listed, masters-listed, off, detail-shown}
+use Rattle.audit_laws.proofs.ChainWalks.{WayHome, chain-walks, off, detail-shown}
 use Rattle.audit_laws.proofs.Chains.{Told, way-told, told-ring, told-way, swept, sweep-home, fault-shown, chain-fault-exactly}
 use Rattle.audit_laws.proofs.Firsts.{run-before, first-fault}
 
@@ -50,7 +51,7 @@ module _ (t f : List ℕ) (r : ℕ → List ℕ) (h : ℕ → ℕ) (a : Accepted
       master = byCases (masterRead t r j x) (λ top. top) (λ top. absurd (l .astray (λ e. clash _ e top)));
       lost = λ xs s. l .astray (told-way t f r h a i j within x xs s);
       lowest = λ m top lt.
-          let c = code-within t a m (masters-listed t f r h a i j within m top) in
+          let c = code-within t a m (masters-listed t r a (i .paged) j within m top) in
           let e = run-before 64 (64 * pages t) x m (l .before) (l .after) (l .whole) (c .0) lt in
           (ringRead t r j m, way-told t f r h a i j within m top (l .home m e));
     }
@@ -61,7 +62,7 @@ module _ (t f : List ℕ) (r : ℕ → List ℕ) (h : ℕ → ℕ) (a : Accepted
       lies x = any (λ m. elem x (ringRead t r j m)) (codes t)
 
       told-all : (m : ℕ) → masterRead t r j m ≡ true → Told t r j m (ringRead t r j m)
-      told-all m top = way-told t f r h a i j within m top (sweep-home t f r h a i j within .0 home m (masters-listed t f r h a i j within m top))
+      told-all m top = way-told t f r h a i j within m top (sweep-home t f r h a i j within .0 home m (masters-listed t r a (i .paged) j within m top))
 
       lies-rung : (x : ℕ) → lies x ≡ true → Rung t r j x
       lies-rung x e =
@@ -72,14 +73,14 @@ module _ (t f : List ℕ) (r : ℕ → List ℕ) (h : ℕ → ℕ) (a : Accepted
       rung-lies : (x : ℕ) → Rung t r j x → lies x ≡ true
       rung-lies x s =
           let (m, xs, top, told, e) = s in
-          some-any (λ n. elem x (ringRead t r j n)) m (codes t) (masters-listed t f r h a i j within m top) (rw (told-ring t f r h a i j within m xs top told) e)
+          some-any (λ n. elem x (ringRead t r j n)) m (codes t) (masters-listed t r a (i .paged) j within m top) (rw (told-ring t f r h a i j within m xs top told) e)
 
       lost-detail : (x : ℕ) → Stray t (λ y. eqb (kindIn f y) (detailType t j)) lies x → DetailLost t r j x
       lost-detail x s = record {
         told = λ m top. (ringRead t r j m, told-all m top);
         detail = sym (detail-shown t f r h a i j within x) ∙ s .to-be-met;
         lost = λ q. clash _ (rung-lies x q) (s .outside);
-        lowest = λ y d lt. lies-rung y (s .lowest y (details-listed t f r h a i j within y d) (detail-shown t f r h a i j within y ∙ d) lt);
+        lowest = λ y d lt. lies-rung y (s .lowest y (details-listed t r a (i .paged) j within y d) (detail-shown t f r h a i j within y ∙ d) lt);
       }
 
       unmet-lost : firstOf (unmetIn f (detailType t j) (swept t f r h a i j within .1)) (codes t) ≢ 0

@@ -7,7 +7,6 @@ use mathlib.Core.List.{List}
 use mathlib.Core.Option.{some}
 use native.Mathlib.Omega.{arith}
 use lib.Dec.{eqb}
-use lib.ListN.{length}
 use borrow.Author.Tests.{eqb-true, eq-eqb, ne-eqb}
 use Rattle.ledger.specs.Numbers.{elem}
 use Rattle.ledger.specs.Table.{pages, chains, masterType, detailType, linkedPrior, isMaster, isDetail, inChain, Accepted}
@@ -18,8 +17,7 @@ use Rattle.ledger.specs.Image.{kindRead, detailRead, masterRead, nextRead, prio
 use Rattle.ledger.proofs.Lists.Tests.{byCases, clash, not-true-false, same-tests}
 use Rattle.ledger.proofs.Audit.Walks.{Home, homes-apart, walked-is, walked-master, walked-out}
 use Rattle.ledger.proofs.Audit.Audits.{home-short}
-use Rattle.ledger.proofs.Image.Paged.{standing-listed}
-use Rattle.ledger.proofs.Image.ChainRings.{codes-few, detail-some, master-some, apart}
+use Rattle.ledger.proofs.Image.ChainRings.{codes-few, details-listed, masters-listed, apart}
 use Rattle.model.specs.Reads.{placeIn, kindFrom, linkFrom, kindIn, nextIn, priorIn}
 use Rattle.place_laws.proofs.Image.{image-there, image-kind, chain-some, image-next, image-prior}
 use Rattle.audit_model.specs.Marks.{Walk, walkOn}
@@ -88,15 +86,6 @@ module _ (t f : List ℕ) (r : ℕ → List ℕ) (h : ℕ → ℕ) (a : Accepted
       (λ z. rw (z, kind-shown x z, detail-shown x, d)))
 
   -- each code's walk, by itself
-  listed : (x : ℕ) → 0 < length (r x) → elem x (codes t) ≡ true
-  listed = standing-listed t r a (i .paged)
-
-  pub details-listed : (x : ℕ) → detailRead t r j x ≡ true → elem x (codes t) ≡ true
-  details-listed x d = listed x (detail-some t r a (i .paged) j within x d)
-
-  pub masters-listed : (x : ℕ) → masterRead t r j x ≡ true → elem x (codes t) ≡ true
-  masters-listed x d = listed x (master-some t r a (i .paged) j within x d)
-
   master-walk : (c : ℕ) (g : List ℕ) → masterRead t r j c ≡ true
       → codeWalks f (endsOf t j) c g ≡ walkOn 8256 (metIn f (endsOf t j)) (backHome f (endsOf t j) c) c c (nextRead t r j c) g
   unfolding codeWalks walkHome endsOf
@@ -116,7 +105,7 @@ module _ (t f : List ℕ) (r : ℕ → List ℕ) (h : ℕ → ℕ) (a : Accepted
   -- the way home of a master is its ring
   pub home-read : (c : ℕ) (xs : List ℕ) → masterRead t r j c ≡ true → Home (nextRead t r j) (detailRead t r j) c (nextRead t r j c) xs
       → walk (suc (64 * pages t)) (nextRead t r j) (detailRead t r j) c (nextRead t r j c) ≡ some xs
-  home-read c xs top way = home-short _ _ (masterRead t r j) (codes t) off details-listed masters-listed _ (codes-few t) c xs (off c top) way
+  home-read c xs top way = home-short _ _ (masterRead t r j) (codes t) off (details-listed t r a (i .paged) j within) (masters-listed t r a (i .paged) j within) _ (codes-few t) c xs (off c top) way
 
   pub ring-is : (c : ℕ) (xs : List ℕ) → masterRead t r j c ≡ true → Home (nextRead t r j) (detailRead t r j) c (nextRead t r j c) xs → ringRead t r j c ≡ xs
   ring-is c xs top way = walked-is _ _ (masterRead t r j) off _ c xs top (home-read c xs top way)
@@ -134,10 +123,10 @@ module _ (t f : List ℕ) (r : ℕ → List ℕ) (h : ℕ → ℕ) (a : Accepted
   walk-goes c g e way clear = byCases (masterRead t r j c)
       (λ top.
       let (home, back) = way top in
-      let none : detailRead t r j 0 ≡ false = not-true-false _ (λ d. omega (arith, code-within t a 0 (details-listed 0 d) .0)) in
+      let none : detailRead t r j 0 ≡ false = not-true-false _ (λ d. omega (arith, code-within t a 0 (details-listed t r a (i .paged) j within 0 d) .0)) in
       let some : c ≢ 0 = λ z. omega (arith, code-within t a c e .0) in
       rw (master-walk c g top)
-      (walk-exactly _ _ _ _ met-shown c _ (λ last. at-home c last top) (off c top) none some (codes t) details-listed 8256 (codes-short t a) c _ g .1
+      (walk-exactly _ _ _ _ met-shown c _ (λ last. at-home c last top) (off c top) none some (codes t) (details-listed t r a (i .paged) j within) 8256 (codes-short t a) c _ g .1
       (ringRead t r j c, record { way = home; backed = back; clear = clear })))
       (λ top. ap (λ (w : Walk). w .0) (other-walk c g top))
 

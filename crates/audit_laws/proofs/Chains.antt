@@ -18,6 +18,7 @@ use Rattle.ledger.proofs.Lists.Tests.{clash, not-true-false}
 use Rattle.ledger.proofs.Lists.Members.{elem-run, run-elem, any-some, some-any}
 use Rattle.ledger.proofs.Audit.Walks.{Home, home-detail, home-once, home-agrees, agrees-home, walked-rings}
 use Rattle.ledger.proofs.Image.Undone.{undone-exactly}
+use Rattle.ledger.proofs.Image.ChainRings.{details-listed, masters-listed}
 use Rattle.model.specs.Reads.{kindIn}
 use Rattle.audit_model.specs.Marks.{Sweep, noMarks, sweepOn}
 use Rattle.audit_model.specs.Chains.{endsOf, codeWalks, unmetIn, chainFaultIn, ringFaultIn}
@@ -25,7 +26,7 @@ use Rattle.audit_laws.proofs.Firsts.{neither-fault, no-fault}
 use Rattle.audit_laws.proofs.Marked.{codes-once, codes-nonzero}
 use Rattle.audit_laws.proofs.Walks.{backed-undone, undone-backed}
 use Rattle.audit_laws.proofs.Sweeps.{sweep-exactly, all-met}
-use Rattle.audit_laws.proofs.ChainWalks.{WayHome, chain-walks, details-listed, masters-listed, home-read, ring-is, off, detail-shown}
+use Rattle.audit_laws.proofs.ChainWalks.{WayHome, chain-walks, home-read, ring-is, off, detail-shown}
 
 -- a list of details that NEXT tells from master m round to it again, and PRIOR where there is one
 pub record Told (t : List ℕ) (r : ℕ → List ℕ) (j m : ℕ) (xs : List ℕ) : Type 0 where
@@ -73,7 +74,7 @@ module _ (t f : List ℕ) (r : ℕ → List ℕ) (h : ℕ → ℕ) (a : Accepted
     ways-ringed : ((c : ℕ) → elem c (codes t) ≡ true → WayHome t r j c) → AllMet → Ringed t r j × (linkedPrior t j ≡ 1 → Priors t r j)
     ways-ringed ways met =
         let away = off t f r h a i j within in
-        let home : (m : ℕ) → WayHome t r j m = λ m top. ways m (masters-listed t f r h a i j within m top) top in
+        let home : (m : ℕ) → WayHome t r j m = λ m top. ways m (masters-listed t r a (i .paged) j within m top) top in
         let comes : (m : ℕ) → masterRead t r j m ≡ true → (xs : List ℕ) × (walk (suc (64 * pages t)) (nextRead t r j) (detailRead t r j) m (nextRead t r j m) ≡ some xs) =
         λ m top. (ringRead t r j m, home-read t f r h a i j within m (ringRead t r j m) top (home m top .0)) in
         let seen : (x : ℕ) → detailRead t r j x ≡ true → (m : ℕ) × (elem x (ringRead t r j m) ≡ true) =
@@ -96,7 +97,7 @@ module _ (t f : List ℕ) (r : ℕ → List ℕ) (h : ℕ → ℕ) (a : Accepted
     ringed-met : Ringed t r j → AllMet
     ringed-met s x d =
         let (m, e) = s .rings .every x d in
-        some-any (λ c. elem x (ringRead t r j c)) m (codes t) (masters-listed t f r h a i j within m (s .rings .own m x e .0)) e
+        some-any (λ c. elem x (ringRead t r j c)) m (codes t) (masters-listed t r a (i .paged) j within m (s .rings .own m x e .0)) e
 
     -- the sweep, and then the details without mark
     abbrev pub swept : Sweep
@@ -109,7 +110,7 @@ module _ (t f : List ℕ) (r : ℕ → List ℕ) (h : ℕ → ℕ) (a : Accepted
     unfolding unmetIn
     met-exactly e =
         let met = all-met _ _ _ (codes t) (chain-walks t f r h a i j within) (codes-nonzero t) (codes-once t) t a (λ x. eqb (kindIn f x) (detailType t j)) e in (
-          λ none x d. met .0 none x (details-listed t f r h a i j within x d) (detail-shown t f r h a i j within x ∙ d),
+          λ none x d. met .0 none x (details-listed t r a (i .paged) j within x d) (detail-shown t f r h a i j within x ∙ d),
           λ own. met .1 (λ x c k. own x (sym (detail-shown t f r h a i j within x) ∙ k)),
         )
 

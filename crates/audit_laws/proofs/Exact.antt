@@ -1,23 +1,21 @@
 -- Refusal 3, exactly: the audit finds no fault if and only if the file is sound for some ledger.
-use Prim.Native.Nat.{ℕ, _*_, _≤_, _<_}
-use mathlib.Core.Path.{_≡_, refl}
+use Prim.Native.Nat.{ℕ, _*_, _<_}
+use mathlib.Core.Path.{_≡_}
 use mathlib.Core.Logic.{_↔_}
-use mathlib.Core.Bool.{true, false}
 use mathlib.Core.List.{List}
 use native.Mathlib.Omega.{arith}
 use lib.ListN.{length, getD}
 use lib.Dec.{eqb}
-use borrow.Author.Tests.{eq-eqb, eqb-true, eqb-false}
-use Rattle.ledger.specs.Table.{pages, chains, linkedPrior, Accepted}
+use borrow.Author.Tests.{eqb-true}
+use Rattle.ledger.specs.Table.{pages, Accepted}
 use Rattle.ledger.specs.Pages.{Ledger, Sound}
-use Rattle.ledger.specs.Image.{ledgerOf, Imaged}
-use Rattle.ledger.specs.Audit.{Ringed, Priors, Calced, Ordered, Audited}
+use Rattle.ledger.specs.Image.{Imaged}
 use Rattle.ledger.proofs.Lists.Tests.{byCases}
 use Rattle.model.specs.Reads.{headNextIn}
 use Rattle.audit_model.specs.Scan.{scan, recordsIn}
 use Rattle.audit_model.specs.Calcs.{calcFaultIn}
 use Rattle.audit_model.specs.Chains.{ringFaultIn}
-use Rattle.audit_model.specs.Faults.{firstPlace, ringPlace, orderPlace, auditOn, faultNumber}
+use Rattle.audit_model.specs.Faults.{ringPlace, orderPlace, auditOn, faultNumber}
 use Rattle.audit_model.proofs.Scan.Exact.{clean-imaged, sound-scanned}
 use Rattle.audit_laws.proofs.Firsts.{first-place}
 use Rattle.audit_laws.proofs.Chains.{ring-fault-exactly}

@@ -25,10 +25,6 @@ markAll (x ∷ xs) g = markAll xs (set g x 1)
 abbrev pub Clear : List ℕ → List ℕ → Type 0
 Clear g xs = (y : ℕ) → elem y xs ≡ true → getD g y 0 ≡ 0
 
-pub marks-length : (xs g : List ℕ) → length (markAll xs g) ≡ length g
-marks-length [] g = refl
-marks-length (x ∷ xs) g = marks-length xs (set g x 1) ∙ length-set g x 1
-
 pub marks-join : (xs ys g : List ℕ) → markAll (xs ++ ys) g ≡ markAll ys (markAll xs g)
 marks-join [] ys g = refl
 marks-join (x ∷ xs) ys g = marks-join xs ys (set g x 1)

@@ -12,18 +12,12 @@ use Rattle.ledger.specs.Numbers.{elem, any, once, concatOf, firstOf}
 use Rattle.ledger.specs.Table.{pages, Accepted}
 use Rattle.ledger.specs.Pages.{codes}
 use Rattle.ledger.proofs.Lists.Tests.{byCases, clash, not-true-false}
-use Rattle.ledger.proofs.Lists.Members.{elem-nil, elem-here, elem-tail, elem-cases, elem-append, elem-put}
+use Rattle.ledger.proofs.Lists.Members.{elem-nil, elem-here, elem-tail, elem-cases, elem-put, elem-concatOf}
 use Rattle.ledger.proofs.Lists.Pairs.{once-head, once-tail}
 use Rattle.ledger.proofs.Lists.Searches.{firstOf-passes}
 use Rattle.audit_model.specs.Marks.{Walk, noMarks, sweepOn}
 use Rattle.audit_laws.proofs.Firsts.{none-first, first-lowest}
 use Rattle.audit_laws.proofs.Marked.{markAll, Clear, marks-join, marks-else, marks-member, no-marks, marks-room, codes-nonzero, code-within}
-
--- a member of joined lists is one of a list
-pub joined-member : (ring : ℕ → List ℕ) (y : ℕ) (cs : List ℕ) → elem y (concatOf ring cs) ≡ any (λ c. elem y (ring c)) cs
-unfolding concatOf any elem
-joined-member ring y [] = refl
-joined-member ring y (c ∷ cs) = rw (elem-append y (ring c) (concatOf ring cs), joined-member ring y cs)
 
 -- what each walk does on its own, and that two rings share no member
 pub record Walks (walk : ℕ → List ℕ → Walk) (ring : ℕ → List ℕ) (Way : ℕ → Type 0) (cs : List ℕ) : Type 0 where
@@ -125,7 +119,7 @@ module _ (walk : ℕ → List ℕ → Walk) (ring : ℕ → List ℕ) (Way : ℕ
         → eqb (getD (sweepOn walk cs noMarks .1) y 0) 0 ≡ not (any (λ c. elem y (ring c)) cs)
     swept-unmet e y lt =
         let marks = sweep-came cs noMarks w nonzero e .1 in
-        rw (← joined-member ring y cs)
+        rw (← elem-concatOf ring y cs)
         (byCases (elem y (concatOf ring cs))
         (λ i. rw (marks, i, marks-member (concatOf ring cs) noMarks y i (rw marks-room lt)))
         (λ i. rw (marks, i, marks-else (concatOf ring cs) noMarks y i, no-marks y)))

@@ -9,9 +9,9 @@ use native.Mathlib.Nat.{pow-suc}
 use lib.ListN.{length, take, drop, length-append, length-drop, take-append-drop}
 use lib.Seq.{take-at, drop-at, length-take-le}
 use lib.Dec.{eqb, ltb}
-use borrow.Author.Tests.{le-ltb, eq-eqb, eqb-true, not-true}
-use Rattle.ledger.specs.Numbers.{elem, all, pairs, once}
-use Rattle.ledger.proofs.Lists.Tests.{byCases, same-tests, either}
+use borrow.Author.Tests.{le-ltb, not-true}
+use Rattle.ledger.specs.Numbers.{elem, all, pairs}
+use Rattle.ledger.proofs.Lists.Tests.{byCases, either}
 use Rattle.ledger.proofs.Lists.Members.{elem-nil, elem-append, elem-cases}
 use Rattle.ledger.proofs.Lists.Pairs.{pairs-cons, pairs-head, pairs-tail}
 use Rattle.audit_model.specs.Sorting.{secondFirst, merged, fitted, half, halvesMerged, sorted}
@@ -74,13 +74,6 @@ shuffled-pairs r sy none = refl
 shuffled-pairs r sy (next x s) = rw (shuffled-all (r x) s, shuffled-pairs r sy s)
 shuffled-pairs r sy (swap x y xs) = rw (sy x y) (exchange (r y x) (all (r x) xs) (all (r y) xs) (pairs r xs))
 shuffled-pairs r sy (onto q s) = shuffled-pairs r sy q ∙ shuffled-pairs r sy s
-
-pub shuffled-once : {xs ys : List ℕ} → Shuffled xs ys → once xs ≡ once ys
-unfolding once
-shuffled-once s = shuffled-pairs (λ x y. not (eqb x y)) (λ a b. ap not (same-tests (eqb a b) (eqb b a) (turned a b) (turned b a))) s
-  where
-    turned : (a b : ℕ) → eqb a b ≡ true → eqb b a ≡ true
-    turned a b e = eq-eqb b a (sym (eqb-true a b e))
 
 -- a list filled from another
 pub fitted-front : (xs ys : List ℕ) → fitted (length xs) (xs ++ ys) ≡ xs

@@ -1,7 +1,7 @@
 -- The details of a record in a sound file, chain by chain and round each ring: what `markFrom` goes through.
-use Prim.Native.Nat.{ℕ, zero, suc, _+_, _*_, _%_, _^_, _≤_, _<_}
+use Prim.Native.Nat.{ℕ, zero, suc, _+_, _%_, _^_, _≤_, _<_}
 use mathlib.Core.Path.{_≡_, refl, _∙_}
-use mathlib.Core.Logic.{_≢_, inl, inr}
+use mathlib.Core.Logic.{_≢_}
 use mathlib.Core.Bool.{true, or-true}
 use mathlib.Core.List.{List, [], _∷_, _++_, append-assoc}
 use native.Mathlib.Omega.{arith}
@@ -9,18 +9,17 @@ use native.Mathlib.Numerals.{add-one}
 use lib.ListN.{length}
 use borrow.Author.Tests.{eq-eqb, ne-eqb, le-leb, lt-leb}
 use Rattle.ledger.specs.Numbers.{elem, run, concatOf, headOr}
-use Rattle.ledger.specs.Table.{pages, chains, isMaster, inChain, Accepted}
-use Rattle.ledger.specs.Pages.{Ledger, kindAt, codes, Sound}
-use Rattle.ledger.proofs.Lists.Tests.{byCases, eqb-same, either}
-use Rattle.ledger.proofs.Lists.Members.{elem-nil, elem-put, elem-here, elem-cases, elem-append, elem-run}
-use Rattle.ledger.proofs.Lists.Pairs.{pigeons}
-use Rattle.ledger.proofs.Lists.Runs.{length-run, length-concatOf, sumOf-most}
-use Rattle.ledger.proofs.Ledger.Rows.{code-listed}
+use Rattle.ledger.specs.Table.{chains, isMaster, inChain, Accepted}
+use Rattle.ledger.specs.Pages.{Ledger, kindAt, Sound}
+use Rattle.ledger.proofs.Lists.Tests.{byCases, eqb-same}
+use Rattle.ledger.proofs.Lists.Members.{elem-put, elem-here, elem-run, some-any, any-some, elem-concatOf}
+use Rattle.ledger.proofs.Lists.Runs.{length-concatOf, sumOf-most}
 use Rattle.ledger.proofs.Ledger.Bounds.{present-some}
 use Rattle.ledger.proofs.Ledger.Rings.{chained, master-not-member, next-master, next-in}
 use Rattle.model.specs.declared.Below.{Below}
 use Rattle.model.specs.Reads.{nextIn}
 use Rattle.place_laws.proofs.Sound.{sound-kind, sound-next}
+use Rattle.ring_laws.proofs.Rounds.{ring-few}
 use Rattle.delete_model.specs.Marks.{Marked, firstIn, firstFrom, firstBelowIn, nextBelowIn, markFrom, belowOn}
 
 -- the details of a record: its rings from chain j on, n of them; and all
@@ -29,20 +28,6 @@ ringsFrom l c j n = concatOf (λ i. l .ring i c) (run j n)
 
 abbrev pub details : List ℕ → Ledger → ℕ → List ℕ
 details t l c = ringsFrom l c 0 (chains t)
-
--- the members of lists joined
-elem-concatOf : (g : ℕ → List ℕ) (y i : ℕ) (xs : List ℕ) → elem i xs ≡ true → elem y (g i) ≡ true → elem y (concatOf g xs) ≡ true
-unfolding concatOf
-elem-concatOf g y i [] h e = elem-nil i h
-elem-concatOf g y i (x ∷ xs) h e =
-    rw (elem-append y (g x))
-    (elim (elem-cases i x xs h) [ inl q ↦ rw (← q, e) | inr q ↦ rw (elem-concatOf g y i xs q e) (or-true (elem y (g x))) ])
-
-concatOf-elem : (g : ℕ → List ℕ) (y : ℕ) (xs : List ℕ) → elem y (concatOf g xs) ≡ true → (i : ℕ) × (elem y (g i) ≡ true)
-unfolding concatOf
-concatOf-elem g y [] e = elem-nil y e
-concatOf-elem g y (x ∷ xs) e =
-    elim (either (elem y (g x)) (elem y (concatOf g xs)) (rw (elem-append y (g x)) at e)) [ inl q ↦ (x, q) | inr q ↦ concatOf-elem g y xs q ]
 
 -- records marked one after another by `rec`, `count` before them
 unfoldable pub markAll : (ℕ → List ℕ → Marked) → ℕ → List ℕ → List ℕ → Marked
@@ -132,17 +117,10 @@ module _ (t f : List ℕ) (l : Ledger) (a : Accepted t) (s : Sound t f l) (c : �
       (λ turns g. rw (add-one j) (chains-listed m (suc j) turns (omega arith) g)) refl
 
   -- there are turns for all of them
-  pub ring-short : (j : ℕ) → length (l .ring j c) ≤ 8192
-  unfolding codes
-  ring-short j =
-      let few = pigeons (l .ring j c) (codes t) (s .formed .ring-once j c)
-      (λ y e. code-listed t l y a (s .formed .placed y (s .formed .ring-own j c y e .3))) in
-      omega (arith, few, length-run 64 (64 * pages t), a .page-count .1)
-
   details-few : length (details t l c) < 200000
   unfolding ringsFrom
   details-few =
-      omega (arith, length-concatOf (λ i. l .ring i c) (run 0 (chains t)), sumOf-most (λ i. length (l .ring i c)) 8192 0 (chains t) ring-short, a .chain-count)
+      omega (arith, length-concatOf (λ i. l .ring i c) (run 0 (chains t)), sumOf-most (λ i. length (l .ring i c)) 8256 0 (chains t) (λ i. omega (arith, ring-few t l a (s .formed) i c)), a .chain-count)
 
   -- all below a record, marked: its details, one after another
   pub below-all : (rec : ℕ → List ℕ → Marked) (k : List ℕ) → belowOn rec t f c k ≡ markAll rec 1 k (details t l c)
@@ -155,8 +133,11 @@ module _ (t f : List ℕ) (l : Ledger) (a : Accepted t) (s : Sound t f l) (c : �
   pub detail-listed : (j y : ℕ) → elem y (l .ring j c) ≡ true → elem y (details t l c) ≡ true
   unfolding ringsFrom
   detail-listed j y e =
-      elem-concatOf (λ i. l .ring i c) y j (run 0 (chains t)) (elem-run j 0 (chains t) (omega arith) (omega (arith, s .formed .ring-own j c y e .0))) e
+      elem-concatOf (λ i. l .ring i c) y (run 0 (chains t))
+      ∙ some-any (λ i. elem y (l .ring i c)) j _ (elem-run j 0 (chains t) (omega arith) (omega (arith, s .formed .ring-own j c y e .0))) e
 
   pub detail-ring : (y : ℕ) → elem y (details t l c) ≡ true → (j : ℕ) × (elem y (l .ring j c) ≡ true)
   unfolding ringsFrom
-  detail-ring y e = concatOf-elem (λ i. l .ring i c) y (run 0 (chains t)) e
+  detail-ring y e =
+      let (j, listed, there) = any-some (λ i. elem y (l .ring i c)) _ (rw elem-concatOf at e) in
+      (j, there)

@@ -19,7 +19,7 @@ use Rattle.model.specs.Writes.{joinedIn}
 use Rattle.place_laws.proofs.With.{Small, own-held, with-next}
 use Rattle.place_laws.proofs.Written.{put2, put2-chain, joined-put, joined-small}
 use Rattle.ring_model.specs.Rings.{ringFuel}
-use Rattle.ring_laws.proofs.Members.{ring-in-chain, ring-short, master-out}
+use Rattle.ring_laws.proofs.Rounds.{all-in-chain, ring-few, master-outside}
 use Rattle.delete_model.specs.Marks.{goesIn}
 use Rattle.delete_model.specs.Closing.{ringClosed}
 use Rattle.delete_laws.proofs.Closed.{nexts, priors, nexts-in, nexts-else, priors-in, priors-else, rest-once, rest-member, rest-other, close-from}
@@ -50,7 +50,7 @@ module _ (t f : List ℕ) (l : Ledger) (a : Accepted t) (s : Sound t f l) (x : �
       prior-there : (i y : ℕ) → i ≢ j → allPrior i y ≡ PR i y
 
     in-chain : (y : ℕ) → elem y (m ∷ ring) ≡ true → inChain t j (kindAt l y) ≡ true
-    in-chain y e = ring-in-chain t f l a s j m top y e
+    in-chain y e = all-in-chain t l a (s .formed) j m top y e
 
     reads : (g : List ℕ) (nx pr : ℕ → ℕ) → InRing g nx pr → (y : ℕ) → elem y (m ∷ ring) ≡ true → nextIn t g j y ≡ nx y
     reads g nx pr r y e =
@@ -110,7 +110,7 @@ module _ (t f : List ℕ) (l : Ledger) (a : Accepted t) (s : Sound t f l) (x : �
     shut : (g : List ℕ) → InRing g (nexts m m rest (NX j)) (priors m m rest (PR j)) → Shut g
     unfolding round
     shut g r =
-        let ones : once (m ∷ rest) ≡ true = rest-once (λ y. not (goesIn k y)) m ring (master-out t f l a s j m top) (s .formed .ring-once j m) in
+        let ones : once (m ∷ rest) ≡ true = rest-once (λ y. not (goesIn k y)) m ring (master-outside t l a (s .formed) j m top) (s .formed .ring-once j m) in
         record {
           nx = r .allNext;
           pr = r .allPrior;
@@ -141,7 +141,7 @@ module _ (t f : List ℕ) (l : Ledger) (a : Accepted t) (s : Sound t f l) (x : �
         let along : (ys : List ℕ) (y : ℕ) (ws : List ℕ) → ring ≡ ys ++ y ∷ ws → NX j y ≡ headOr m ws =
         λ ys y ws e. own y (elem-tail y m ring (rw e (elem-put y ys ws))) ∙ next-in t l j m y ys ws (chained t l a (s .formed) j) e in
         let first : nextIn t g j m ≡ headOr m ring = reads g (NX j) (PR j) start m (elem-here m ring) ∙ own m (elem-here m ring) ∙ next-master t l j m top in
-        let off = master-out t f l a s j m top in
+        let off = master-outside t l a (s .formed) j m top in
         shut _ (rw first
         (close-from (λ g at. nextIn t g j at) (λ g b a. joinedIn t g j b a) k m ring InRing (λ g nx pr r y e. reads g nx pr r y (elem-tail y m ring e)) joins
-        ring g (NX j) (PR j) m ringFuel start (λ y e. e) (elem-here m ring) along off (once-cons m ring off (s .formed .ring-once j m)) (ring-short t f l a s j m)))
+        ring g (NX j) (PR j) m ringFuel start (λ y e. e) (elem-here m ring) along off (once-cons m ring off (s .formed .ring-once j m)) (ring-few t l a (s .formed) j m)))

@@ -20,9 +20,8 @@ use Rattle.ledger.proofs.Ledger.Bounds.{present-small}
 use Rattle.ledger.proofs.Ledger.Rings.{chained, master-self, master-in}
 use Rattle.ledger.proofs.Delete.Doomed.{goes-down}
 use Rattle.model.specs.Reads.{kindIn}
-use Rattle.place_laws.proofs.Sound.{chain-there}
-use Rattle.place_laws.proofs.With.{layout-with, own-held, own-small, with-kind}
-use Rattle.ring_laws.proofs.Members.{its-master, round-its-ring, master-chain, ring-in-chain}
+use Rattle.place_laws.proofs.With.{with-chain, layout-with, own-held, own-small, with-kind}
+use Rattle.ring_laws.proofs.Rounds.{master-type, round-master, master-chain, all-in-chain}
 use Rattle.delete_model.specs.Marks.{goesIn}
 use Rattle.delete_model.specs.Closing.{eachFrom, ringClosed, codeClosed, chainClosed, chainsClosed}
 use Rattle.delete_laws.proofs.Chained.{Linked, ring-shut}
@@ -53,7 +52,7 @@ module _ (t f : List ℕ) (l : Ledger) (a : Accepted t) (s : Sound t f l) (x : �
       → (64 ≤ masterOf t l i y) × (masterOf t l i y < 64 * pages t + 64) × (64 * pages t + 64 ≤ 8256)
   master-within i y lt c =
       let m = masterOf t l i y in
-      let e = chain-there t f l a s i m lt (master-chain t i _ (its-master t f l a s i y lt c)) in
+      let e = with-chain t l a i m lt (master-chain t i _ (master-type t l a (s .formed) i y lt c)) in
       (omega (arith, placed-within t l m a (s .formed .placed m e) .0), present-small t l a (s .formed) m e, omega (arith, a .page-count .1))
 
   -- a ring that has nothing to close
@@ -90,7 +89,7 @@ module _ (t f : List ℕ) (l : Ledger) (a : Accepted t) (s : Sound t f l) (x : �
         let (lo, hi, max) = master-within i y li ci in
         let q : i ≡ j = omega arith in
         let r : masterOf t l i y ≡ c = omega arith in
-        (q, r, rw (← q, ← r) (round-its-ring t f l a s i y li ci))
+        (q, r, rw (← q, ← r) (round-master t l a (s .formed) i y li ci))
 
     round-else : isMaster t j (kindAt l c) ≡ true → (i y : ℕ) → 8256 * i + masterOf t l i y ≢ 8256 * j + c → i ≡ j → elem y (c ∷ l .ring j c) ≡ false
     round-else top i y n q = not-true-false _ (λ h. n (rw (q, its-own top y h)))
@@ -100,7 +99,7 @@ module _ (t f : List ℕ) (l : Ledger) (a : Accepted t) (s : Sound t f l) (x : �
         → Before (suc (8256 * j + c)) (ringClosed t g k j c)
     close-ring g top stay b =
         let own : (y : ℕ) → elem y (c ∷ l .ring j c) ≡ true → b .nx j y ≡ nextOf t l j y =
-        λ y h. b .next-open j y lt (ring-in-chain t f l a s j c top y h) (rw (its-own top y h) (omega arith)) in
+        λ y h. b .next-open j y lt (all-in-chain t l a (s .formed) j c top y h) (rw (its-own top y h) (omega arith)) in
         let u = ring-shut t f l a s x k same (calcNext t l) (headNext t l) j c lt top stay (b .nx) (b .pr) g (b .linked) own in
         record {
           nx = u .nx;
@@ -120,7 +119,7 @@ module _ (t f : List ℕ) (l : Ledger) (a : Accepted t) (s : Sound t f l) (x : �
     skip-ring g why b = skip (8256 * j + c) (suc (8256 * j + c)) g (omega arith)
         (λ i y li ci st lo hi.
         let (q, r, o) = round-here i y li ci (omega arith) in
-        let gone : goes t l x c ≡ true = why (rw (r, q) at (its-master t f l a s i y li ci)) in
+        let gone : goes t l x c ≡ true = why (rw (r, q) at (master-type t l a (s .formed) i y li ci)) in
         elim (elem-cases y c (l .ring j c) o) [
           | inl e ↦ clash _ (rw e gone) st
           | inr e ↦ clash _ (goes-down t l x a (s .formed) j c y gone e) st

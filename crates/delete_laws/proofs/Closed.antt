@@ -13,7 +13,7 @@ use Rattle.ledger.proofs.Lists.Tests.{byCases, same-or-not, clash, neither, eqb
 use Rattle.ledger.proofs.Lists.Members.{elem-nil, elem-here, elem-there, elem-tail, elem-cases, elem-put, elem-reverse, elem-turned}
 use Rattle.ledger.proofs.Lists.Pairs.{once-head, once-tail, once-cons, once-keep}
 use Rattle.ledger.proofs.Lists.Sieves.{keep-elem, elem-keep}
-use Rattle.ledger.proofs.Lists.Followers.{follower-here, follower-there, follower-past}
+use Rattle.ledger.proofs.Lists.Followers.{follower-here, follower-there, follower-past, follower-front}
 use Rattle.delete_model.specs.Marks.{goesIn}
 use Rattle.delete_model.specs.Closing.{stepOn, closeFrom}
 
@@ -55,19 +55,6 @@ nexts-in home last (z ∷ zs) nx y o e = same-or-not y last
     (nexts-else home z zs (update nx last z) last (once-head last (z ∷ zs) o) ∙ update-same nx last z))
     (λ n. rw (follower-there y last (z ∷ (zs ++ (home ∷ []))) n)
     (nexts-in home z zs (update nx last z) y (once-tail last (z ∷ zs) o) (rw (elem-there y last (z ∷ zs) n) at e)))
-
--- what comes after a member of a first part is told by that part and the next one
-follower-front : (y z : ℕ) (xs zs : List ℕ) → elem y xs ≡ true → follower y (xs ++ z ∷ zs) ≡ follower y (xs ++ (z ∷ []))
-unfolding headOr
-follower-front y z [] zs e = elem-nil y e
-follower-front y z (x ∷ []) zs e = elim (elem-cases y x [] e) [
-  | inl q ↦ rw (q, follower-here x (z ∷ zs), follower-here x (z ∷ []))
-  | inr q ↦ elem-nil y q
-]
-follower-front y z (x ∷ w ∷ xs) zs e = same-or-not y x
-    (λ q. rw (q, follower-here x (w ∷ (xs ++ z ∷ zs)), follower-here x (w ∷ (xs ++ (z ∷ [])))))
-    (λ n. rw (follower-there y x (w ∷ (xs ++ z ∷ zs)) n, follower-there y x (w ∷ (xs ++ (z ∷ []))) n)
-    (follower-front y z (w ∷ xs) zs (rw (elem-there y x (w ∷ xs) n) at e)))
 
 -- and before it, that before it
 pub priors-in : (home last : ℕ) (zs : List ℕ) (pr : ℕ → ℕ) (y : ℕ) → once (home ∷ zs) ≡ true → elem y (home ∷ zs) ≡ true

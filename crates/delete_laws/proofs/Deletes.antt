@@ -16,6 +16,7 @@ use Rattle.ledger.specs.Answers.{doneWith, outcome, refusal}
 use Rattle.ledger.specs.Currency.{InForce}
 use Rattle.ledger.specs.Calls.{done, goes, deleted, delete}
 use Rattle.ledger.proofs.Lists.Tests.{byCases}
+use Rattle.ledger.proofs.Bytes.Writes.{laid-same}
 use Rattle.ledger.proofs.Ledger.Bounds.{present-small, homeOf-within}
 use Rattle.ledger.proofs.Ledger.Entries.{points-there}
 use Rattle.ledger.proofs.Ledger.Records.{absent-bytes}
@@ -23,10 +24,8 @@ use Rattle.ledger.proofs.Delete.Doomed.{going, goes-there}
 use Rattle.ledger.proofs.Delete.Deleted.{deleted-gone, deleted-at}
 use Rattle.ledger.proofs.Delete.Backed.{currencyAfter as backedCurrency, delete-parts}
 use Rattle.place_laws.proofs.Sound.{sound-kind}
-use Rattle.place_laws.proofs.Links.{laid-same}
 use Rattle.place_laws.proofs.Pieces.{bytes-same}
 use Rattle.place_laws.proofs.With.{own-held, bytes-some, with-imaged}
-use Rattle.ring_laws.proofs.Masters.{sound-master}
 use Rattle.delete_model.specs.Marks.{goesIn, markedOn}
 use Rattle.delete_model.specs.Closing.{chainsClosed, actOn}
 use Rattle.delete_model.specs.Deletes.{deletedWith, decidedOn, deletedFrom, deleteOn}
@@ -108,7 +107,7 @@ module _ (t f : List ℕ) (l : Ledger) (a : Accepted t) (s : Sound t f l) where
           rw (
             ne-eqb x 0 n,
             deleted-file x (markedOn t f 16 x (replicate 8256 0) .1) same,
-            entries-backed t f l a s (sound-master t f l a s) cur c (markedOn t f 16 x (replicate 8256 0) .1) same,
+            entries-backed t f l a s cur c (markedOn t f 16 x (replicate 8256 0) .1) same,
             sound-kind t f l a s x,
             count,
           )

@@ -22,7 +22,7 @@ use Rattle.model.specs.Writes.{calcPut}
 use Rattle.place_laws.proofs.With.{Small, own-held, held-small, with-calc, with-head}
 use Rattle.place_laws.proofs.Written.{small-calc, small-head, calc-record-put, calc-head-put}
 use Rattle.ring_model.specs.Rings.{ringFuel}
-use Rattle.ring_laws.proofs.Members.{calc-short}
+use Rattle.ring_laws.proofs.Rounds.{calc-few}
 use Rattle.delete_model.specs.Marks.{goesIn}
 use Rattle.delete_model.specs.Closing.{calcClosed}
 use Rattle.delete_laws.proofs.Closed.{nexts, priors, nexts-in, rest-once, rest-member, close-from}
@@ -164,4 +164,4 @@ module _ (t f : List ℕ) (l : Ledger) (a : Accepted t) (s : Sound t f l) (x : �
         let small : p % 65536 ≡ p = mod-eq-of-lt (omega (arith, a .page-count .1)) in
         shut _ start (rw (small, first)
         (close-from (λ g at. calcNextIn t g at) (λ g b a. calcPut t g b a) k m ring InRing reads joins
-        ring g start start m ringFuel is (λ y e. e) (elem-here m ring) along head-out (once-cons m ring head-out (s .formed .calc-once p)) (calc-short t f l a s p)))
+        ring g start start m ringFuel is (λ y e. e) (elem-here m ring) along head-out (once-cons m ring head-out (s .formed .calc-once p)) (calc-few t l a (s .formed) p)))

@@ -146,9 +146,6 @@ module _ (t f : List ℕ) (l : Ledger) (a : Accepted t) (s : Sound t f l) where
         let q = rw (none, same) at (top .0 .counts) in
         omega (arith, q)
 
-    pub marked-size : length (went .1) ≡ 8256
-    marked-size = top .0 .sized
-
   pub marked-goes : (x : ℕ) → present l x ≡ true
       → let w = markedOn t f 16 x (replicate 8256 0) in ((y : ℕ) → goesIn (w .1) y ≡ goes t l x y) × (w .0 ≡ length (keep (goes t l x) (codes t)))
   marked-goes x p = (each-goes x p, counted x p)

@@ -10,9 +10,8 @@ use Rattle.ledger.specs.declared.Currency.{Currency}
 use Rattle.ledger.specs.Numbers.{byIndex}
 use Rattle.ledger.specs.Table.{Accepted}
 use Rattle.ledger.specs.Pages.{Ledger, kindAt, Sound}
-use Rattle.ledger.specs.Answers.{doneWith, outcome, refusal}
 use Rattle.ledger.specs.Currency.{arrived}
-use Rattle.ledger.specs.Calls.{Turn, unless, arrive}
+use Rattle.ledger.specs.Calls.{arrive}
 use Rattle.ledger.specs.Promise.{told}
 use Rattle.model.specs.Reads.{kindIn}
 use Rattle.look_model.specs.Currencies.{entryAfter, entriesFrom, arrivedAs, arrival}

@@ -6,14 +6,13 @@ use mathlib.Core.Bool.{Bool, true, false, cond, not, _&&_, Bool·not-not}
 use mathlib.Core.List.{List, [], _∷_, _++_}
 use native.Mathlib.Omega.{arith}
 use lib.ListN.{length}
-use lib.Dec.{eqb, ltb, leb}
-use borrow.Author.Tests.{eq-eqb, ne-eqb, eqb-true, eqb-false, leb-false, not-false}
+use lib.Dec.{eqb, leb}
+use borrow.Author.Tests.{ne-eqb, eqb-true, eqb-false, leb-false, not-false}
 use Rattle.ledger.specs.declared.Currency.{Currency}
-use Rattle.ledger.specs.declared.Outcome.{Outcome}
 use Rattle.ledger.specs.Numbers.{elem, run, firstOf, placeFrom, sameKey}
-use Rattle.ledger.specs.Table.{pages, chains, row, dataLen, keyLen, sortLen, order, defined, calculated, isMaster, inChain, calcKey, Accepted}
+use Rattle.ledger.specs.Table.{pages, chains, defined, inChain, calcKey, Accepted}
 use Rattle.ledger.specs.Pages.{Ledger, kindAt, bytesAt, present, codes, home, keyIn, nextOf, priorOf, masterOf, Sound}
-use Rattle.ledger.specs.Answers.{doneWith, outcome, refusal}
+use Rattle.ledger.specs.Answers.{refusal}
 use Rattle.ledger.specs.Currency.{typeCurrent, chainCurrent, occurrence, InForce}
 use Rattle.ledger.specs.Calls.{Turn, unless, arrive, noChain, direct, found, key, current, find, along, next, prior, master, each, read}
 use Rattle.ledger.specs.Promise.{told}
@@ -25,14 +24,14 @@ use Rattle.ledger.proofs.Lists.Members.{run-elem}
 use Rattle.ledger.proofs.Ledger.Rows.{home-within, placed-within}
 use Rattle.ledger.proofs.Ledger.Bounds.{present-some}
 use Rattle.ledger.proofs.Keeps.Stored.{occurrence-there}
-use Rattle.model.specs.Reads.{kindIn, nextIn, dataIn}
-use Rattle.ring_model.specs.Rings.{masterIn, beforeIn, keyFoundIn, calcFoundIn}
-use Rattle.ring_laws.proofs.Masters.{sound-master}
+use Rattle.model.specs.Reads.{kindIn, nextIn}
+use Rattle.ring_model.specs.Rings.{masterIn, beforeIn}
+use Rattle.ring_laws.proofs.Masters.{sound-master, sound-occurrence}
 use Rattle.ring_laws.proofs.Before.{sound-before}
 use Rattle.ring_laws.proofs.Found.{foundOf, sound-key-found, sound-calc-found}
 use Rattle.look_model.specs.Currencies.{arrival}
-use Rattle.look_model.specs.Looks.{directOn, reachedOn, foundOn, keyOn, currentOn, onChain, findOn, alongOn, nextOn, priorOn, masterOn, thereIn, firstIn, eachOn, readOn}
-use Rattle.place_laws.proofs.Sound.{sound-kind, sound-there, sound-next}
+use Rattle.look_model.specs.Looks.{directOn, reachedOn, foundOn, keyOn, currentOn, findOn, alongOn, nextOn, priorOn, masterOn, thereIn, firstIn, eachOn}
+use Rattle.place_laws.proofs.Sound.{sound-there, sound-next}
 use Rattle.look_laws.proofs.Arrivals.{arrival-told}
 
 -- a refusal that is due is told, else what is to be done
@@ -42,11 +41,6 @@ told-unless cur true n r = refl
 told-unless cur false n r = refl
 
 -- searches with tests that agree on a list; what is found stands at a place
-pub first-same : (p q : ℕ → Bool) (xs : List ℕ) → ((y : ℕ) → elem y xs ≡ true → p y ≡ q y) → firstOf p xs ≡ firstOf q xs
-unfolding firstOf
-first-same p q [] h = refl
-first-same p q (x ∷ xs) h = rw (h x (elem-here x xs), first-same p q xs (λ y e. h y (elem-tail y x xs e)))
-
 pub place-same : (p q : ℕ → Bool) (i : ℕ) (xs : List ℕ) → ((y : ℕ) → elem y xs ≡ true → p y ≡ q y) → placeFrom p i xs ≡ placeFrom q i xs
 unfolding placeFrom
 place-same p q i [] h = refl
@@ -85,10 +79,6 @@ module _ (t f : List ℕ) (l : Ledger) (cur : Currency) (a : Accepted t) (s : So
   in-chain : (j : ℕ) → chainCurrent cur j ≢ 0 → inChain t j (kindAt l (chainCurrent cur j)) ≡ true
   in-chain j some = elim (i .chain-right j) [ inl z ↦ absurd (some z) | inr q ↦ q .1 ]
 
-  pub sound-occurrence : (j : ℕ) → j < chains t → chainCurrent cur j ≢ 0 → masterIn t f j (chainCurrent cur j) ≡ occurrence t l cur j
-  unfolding occurrence
-  sound-occurrence j lt some = sound-master t f l a s j (chainCurrent cur j) lt (in-chain j some)
-
   -- from the chain's current record to another of its ring
   along-told : (read : List ℕ → List ℕ → ℕ → ℕ → ℕ) (step : List ℕ → Ledger → ℕ → ℕ → ℕ)
       → ((j x : ℕ) → j < chains t → inChain t j (kindAt l x) ≡ true → read t f j x ≡ step t l j x) → (j : ℕ) → alongOn read t f cur j ≡ told cur (along step t l cur j)
@@ -115,7 +105,7 @@ module _ (t f : List ℕ) (l : Ledger) (cur : Currency) (a : Accepted t) (s : So
       → foundOn t f cur (foundOf q xs) ≡ told cur (found t l cur p xs)
   unfolding foundOn found
   found-told p q xs some same =
-      rw (told-unless, first-same q p xs same, place-same q p 1 xs same, first-place p 1 xs (omega arith) some, arrives (firstOf p xs) (placeFrom p 1 xs))
+      rw (told-unless, firstOf-same q p xs same, place-same q p 1 xs same, first-place p 1 xs (omega arith) some, arrives (firstOf p xs) (placeFrom p 1 xs))
 
   pub key-told : (n : ℕ) (k : List ℕ) → keyOn t f cur n k ≡ told cur (key t l cur n k)
   unfolding keyOn key
@@ -141,7 +131,7 @@ module _ (t f : List ℕ) (l : Ledger) (cur : Currency) (a : Accepted t) (s : So
       rw (
         lt,
         some,
-        sound-occurrence j (leb-false _ _ lt) (eqb-false _ _ some),
+        sound-occurrence t f l cur a s i j (eqb-false _ _ some),
         sound-key-found t f l a s j (occurrence t l cur j) (leb-false _ _ lt) (m .1) k 0,
         found-told (λ y. sameKey (keyIn t l j y) k) (λ y. not (eqb y 0) && sameKey (keyIn t l j y) k) (l .ring j (occurrence t l cur j))
             (λ y h. present-some t l y (s .formed) (s .formed .ring-own j _ y h .3))
@@ -154,7 +144,7 @@ module _ (t f : List ℕ) (l : Ledger) (cur : Currency) (a : Accepted t) (s : So
   first-there first last =
       let p : ℕ → Bool = λ y. leb first y && leb y last && present l y in
       let fits : 64 * pages t + (8256 - 64 * pages t) ≡ 8256 = omega (arith, a .page-count .1) in
-      firstOf-same _ p (run 64 8256) (λ y. rw (sound-there t f l a s y))
+      firstOf-same _ p (run 64 8256) (λ y e. rw (sound-there t f l a s y))
       ∙ rw (← fits, run-append) (first-front p (run 64 (64 * pages t)) (run (64 + 64 * pages t) (8256 - 64 * pages t)) (λ y h.
       not-true-false _ λ e.
       let there = both (leb first y && leb y last) (present l y) e .1 in

@@ -1,8 +1,6 @@
 -- READ on a sound file with a currency in force: the ledger's answer, the data at the front of the output, and the rest of it as it was.
 use Prim.Native.Nat.{ℕ, _+_, _≤_}
-use mathlib.Core.Path.{_≡_, refl, _∙_}
-use mathlib.Core.Logic.{inl, inr}
-use mathlib.Core.Bool.{true}
+use mathlib.Core.Path.{_≡_, refl}
 use mathlib.Core.List.{List, _++_}
 use native.Mathlib.Omega.{arith}
 use native.Mathlib.Nat.{zero-add}
@@ -11,14 +9,13 @@ use lib.Dec.{eqb, ltb}
 use borrow.Author.Tests.{eqb-false, ltb-false}
 use Rattle.ledger.specs.declared.Currency.{Currency}
 use Rattle.ledger.specs.Table.{row, dataLen, Accepted}
-use Rattle.ledger.specs.Pages.{Ledger, kindAt, bytesAt, present, Sound}
+use Rattle.ledger.specs.Pages.{Ledger, kindAt, bytesAt, Sound}
 use Rattle.ledger.specs.Currency.{InForce}
 use Rattle.ledger.specs.Calls.{read}
 use Rattle.ledger.specs.Promise.{told}
 use Rattle.ledger.proofs.Lists.Tests.{byCases}
 use Rattle.ledger.proofs.Ledger.Entries.{points-there}
 use Rattle.model.specs.Reads.{kindIn}
-use Rattle.model.specs.Moves.{partPut}
 use Rattle.look_model.specs.Looks.{readOn}
 use Rattle.place_laws.proofs.Sound.{sound-kind, sound-data}
 use Rattle.place_laws.proofs.Links.{put-is}

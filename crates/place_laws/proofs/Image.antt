@@ -1,19 +1,19 @@
 -- What is read in a file that is an image (`Imaged`): each record where it stands, its type, data and links, and each page's CALC NEXT.
 use Prim.Native.Nat.{ℕ, _+_, _*_, _-_, _≤_, _<_}
-use mathlib.Core.Path.{_≡_, refl, sym, _∙_, ap}
+use mathlib.Core.Path.{_≡_, refl, _∙_}
 use mathlib.Core.Bool.{true, false}
 use mathlib.Core.List.{List, [], _∷_}
 use native.Mathlib.Omega.{arith}
 use native.Mathlib.Nat.{add-zero, add-assoc}
-use lib.ListN.{length, getD, take, drop}
+use lib.ListN.{length}
 use lib.Seq.{take-nil}
-use lib.Dec.{eqb, ltb, leb}
+use lib.Dec.{eqb, ltb}
 use borrow.Author.Tests.{eq-eqb, ne-eqb, eqb-false, le-ltb, ltb-false}
 use Rattle.ledger.specs.Numbers.{part}
-use Rattle.ledger.specs.Table.{pages, chains, row, dataLen, calculated, isMaster, isDetail, inChain, linkedPrior, Accepted}
-use Rattle.ledger.specs.Pages.{codeOf, pageOf, lineOf, calcAt, linkAt, linkBytes, recordSize, page, laid}
-use Rattle.ledger.specs.Bytes.{twoAt, threeAt, startOf, lookup, Formed}
-use Rattle.ledger.specs.Image.{kindRead, dataRead, nextRead, priorRead, Standing, Imaged}
+use Rattle.ledger.specs.Table.{pages, chains, row, dataLen, calculated, inChain, linkedPrior, Accepted}
+use Rattle.ledger.specs.Pages.{codeOf, pageOf, lineOf, calcAt, linkAt, linkBytes, recordSize, page}
+use Rattle.ledger.specs.Bytes.{twoAt, threeAt, startOf, Formed}
+use Rattle.ledger.specs.Image.{kindRead, dataRead, nextRead, priorRead, Imaged}
 use Rattle.ledger.proofs.Lists.Tests.{byCases, clash}
 use Rattle.ledger.proofs.Lists.Parts.{getD-part, part-inside}
 use Rattle.ledger.proofs.Bytes.Pages.{laid-length, laid-page, head-number}

@@ -9,12 +9,11 @@ use lib.Seq.{length-take-le, drop-drop, length-sets, sets-eq}
 use borrow.Author.Tests.{ne-eqb}
 use Rattle.ledger.specs.Numbers.{digits, part, update}
 use Rattle.ledger.specs.Table.{pages, Accepted}
-use Rattle.ledger.specs.Pages.{codeOf, pageOf, lineOf, page, laid}
+use Rattle.ledger.specs.Pages.{codeOf, pageOf, lineOf, laid}
 use Rattle.ledger.specs.Image.{Imaged}
-use Rattle.ledger.proofs.Lists.Runs.{concatOf-same}
 use Rattle.ledger.proofs.Lists.Parts.{replaced, replaced-inside}
 use Rattle.ledger.proofs.Lists.Digits.{length-digits}
-use Rattle.ledger.proofs.Bytes.Writes.{page-same, laid-head-put, laid-record-put}
+use Rattle.ledger.proofs.Bytes.Writes.{laid-head-put, laid-record-put}
 use Rattle.ledger.proofs.Bytes.Places.{record-inside}
 use Rattle.model.specs.Reads.{pageStart, placeIn}
 use Rattle.model.specs.Writes.{threePut, linkPut, headPut}
@@ -51,13 +50,6 @@ unfolding threePut partPut digits
 three-put f i v =
     let e : i + 2 ≡ i + 1 + 1 = omega arith in
     rw (e, add-one i, add-one (suc i))
-
--- a layout is told by its records and its headers' links
-pub laid-same : (n : ℕ) (r r′ : ℕ → List ℕ) (h h′ : ℕ → ℕ) → ((x : ℕ) → r x ≡ r′ x) → ((p : ℕ) → 1 ≤ p → p ≤ n → h p ≡ h′ p)
-    → laid n r h ≡ laid n r′ h′
-unfolding laid
-laid-same n r r′ h h′ bytes heads =
-    concatOf-same (page r′ h′) (page r h) 1 n (λ p lo hi. page-same r′ r h′ h p (heads p lo (omega arith)) (λ k low high. bytes (codeOf p k)))
 
 module _ (t f : List ℕ) (r : ℕ → List ℕ) (h : ℕ → ℕ) (a : Accepted t) (i : Imaged t f r h) where
   -- bytes of a record

@@ -5,7 +5,7 @@ use mathlib.Core.Bool.{true, cond}
 use mathlib.Core.List.{List, [], _∷_, _++_, append-assoc}
 use native.Mathlib.Omega.{arith}
 use native.Mathlib.Nat.{add-zero, zero-add}
-use lib.ListN.{length, take, drop, set, replicate, length-append, length-replicate, getD, replicate-append-replicate}
+use lib.ListN.{length, take, drop, replicate, length-append, length-replicate, getD, replicate-append-replicate}
 use lib.Seq.{sets, sets-eq, length-take-le}
 use lib.Dec.{eqb}
 use Rattle.ledger.specs.Numbers.{digits, run, concatOf}
@@ -14,7 +14,7 @@ use Rattle.ledger.specs.Pages.{codeOf, pageOf, lineOf, recordSize, linkAt, calc
 use Rattle.ledger.specs.Bytes.{twoAt, opened}
 use Rattle.ledger.specs.Image.{Standing, kindRead}
 use Rattle.ledger.proofs.Lists.Tests.{byCases}
-use Rattle.ledger.proofs.Lists.Parts.{replaced-inside, getD-zeros}
+use Rattle.ledger.proofs.Lists.Parts.{replaced-inside, sets-append, getD-zeros}
 use Rattle.ledger.proofs.Lists.Digits.{length-digits, Bytes, append-bytes, digits-bytes}
 use Rattle.ledger.proofs.Ledger.Rows.{kind-within, size-least, size-small}
 use Rattle.ledger.proofs.Ledger.Records.{links-length}
@@ -110,11 +110,7 @@ module _ (t : List ℕ) (l : Ledger) (nx pr : ℕ → ℕ → ℕ) (cn : ℕ →
       unfold recordSize linkAt calcAt in omega (arith, links-length t l nx pr cn x) in
       rw (there, ← long, ← links-zeros)
 
--- bytes written one after another
-sets-append : (l : List ℕ) (i : ℕ) (xs ys : List ℕ) → sets l i (xs ++ ys) ≡ sets (sets l i xs) (i + length xs) ys
-sets-append l i [] ys = rw (add-zero i)
-sets-append l i (x ∷ xs) ys = let e : i + suc (length xs) ≡ suc i + length xs = omega arith in rw e (sets-append (set l i x) (suc i) xs ys)
-
+-- zeros left out
 drop-zeros : (n m : ℕ) → drop n (replicate m 0) ≡ replicate {A = ℕ} (m - n) 0
 drop-zeros zero m = let e : m - 0 ≡ m = omega arith in rw e
 drop-zeros (suc n) zero = let e : 0 - suc n ≡ 0 = omega arith in rw e

@@ -17,7 +17,7 @@ use Rattle.ledger.specs.Image.{Standing, Paged, Imaged}
 use Rattle.ledger.proofs.Lists.Tests.{same-or-not, update-same, update-other}
 use Rattle.ledger.proofs.Lists.Searches.{firstOf-passes}
 use Rattle.ledger.proofs.Bytes.Pages.{page-length}
-use Rattle.ledger.proofs.Bytes.Places.{used-at, record-inside}
+use Rattle.ledger.proofs.Bytes.Places.{start-least, used-at, record-inside}
 use Rattle.ledger.proofs.Bytes.Lookup.{lookup-found, size-there, line-there}
 use Rattle.ledger.proofs.Bytes.Writes.{other-page, laid-page-put}
 use Rattle.ledger.proofs.Bytes.Moves.{bit, bit-some, flags-moved, flags-in, fits-moved, page-put-in, page-put-out, flags-small}
@@ -31,10 +31,6 @@ use Rattle.place_laws.proofs.Made.{recordMade, made-length, gapAt, gap-
 use Rattle.place_laws.proofs.Room.{free-read, flags-read, image-gap, image-gap-at}
 
 -- a page's bytes reach past its header
-start-past : (r : ℕ → List ℕ) (p k : ℕ) → 16 ≤ startOf r p k
-unfolding startOf
-start-past r p k = omega arith
-
 opened-long : (f : List ℕ) (s : ℕ) (b : List ℕ) → s ≤ length f → s ≤ length (opened f s b)
 unfolding opened
 opened-long f s b h = simp (length-append, length-take-le s f h) (omega arith)
@@ -53,7 +49,7 @@ module _ (r : ℕ → List ℕ) (h : ℕ → ℕ) (p : ℕ) (fits : used r p ≤
       let long : length b ≡ size = made-length n size k d room in
       let there : r′ (codeOf p k) ≡ b = update-same r (codeOf p k) b in
       let whole : length (page r h p) ≡ 512 = page-length r h p fits in
-      let header : 13 ≤ length (opened (page r h p) s b) = omega (arith, start-past r p k, opened-long (page r h p) s b (omega arith)) in
+      let header : 13 ≤ length (opened (page r h p) s b) = omega (arith, start-least r p k, opened-long (page r h p) s b (omega arith)) in
       let line : k % 64 ≡ k = omega arith in
       let flag : flags r′ p ≡ flags r p + 2 ^ k = flags-in r r′ p k lo hi (update-other r (codeOf p k) b) nothing (rw (there, long) (omega arith)) in
       let flag-fits : flags r p + 2 ^ k < 2 ^ 64 = omega (arith, flag, flags-small r′ p) in
@@ -73,7 +69,7 @@ module _ (r : ℕ → List ℕ) (h : ℕ → ℕ) (p : ℕ) (fits : used r p ≤
   page-taken formed some =
       let n : ℕ = length (r (codeOf p k)) in
       let s : ℕ = startOf r p k in
-      let start = start-past r p k in
+      let start = start-least r p k in
       let small : free r p + n < 2 ^ 16 = unfold free in omega (arith, used-at r p k lo hi) in
       let r′ : ℕ → List ℕ = update r (codeOf p k) [] in
       let there : r′ (codeOf p k) ≡ [] = update-same r (codeOf p k) [] in

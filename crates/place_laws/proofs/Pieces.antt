@@ -2,8 +2,8 @@
 use Prim.Native.Nat.{ℕ, suc, _+_, _-_, _≤_, _<_}
 use mathlib.Core.Path.{_≡_, refl}
 use mathlib.Core.Logic.{_≢_}
-use mathlib.Core.Bool.{true, cond}
-use mathlib.Core.List.{List, [], _++_, append-assoc}
+use mathlib.Core.Bool.{true}
+use mathlib.Core.List.{List, _++_, append-assoc}
 use native.Mathlib.Omega.{arith}
 use native.Mathlib.Nat.{add-zero}
 use lib.ListN.{length, length-append}
@@ -11,11 +11,11 @@ use lib.Dec.{eqb}
 use borrow.Author.Tests.{eqb-true, eq-eqb}
 use Rattle.ledger.specs.Numbers.{digits, run, concatOf}
 use Rattle.ledger.specs.Table.{chains, row, dataLen, calculated, inChain, linkedPrior}
-use Rattle.ledger.specs.Pages.{lineOf, linkBytes, calcAt, linkAt, recordSize, Ledger, kindAt, bytesAt, present, chainLinks, links, bytesWith}
+use Rattle.ledger.specs.Pages.{linkBytes, calcAt, linkAt, Ledger, kindAt, bytesAt, present, chainLinks, links, bytesWith}
 use Rattle.ledger.proofs.Lists.Tests.{byCases}
-use Rattle.ledger.proofs.Lists.Runs.{concatOf-at, concatOf-same}
+use Rattle.ledger.proofs.Lists.Runs.{concatOf-same}
 use Rattle.ledger.proofs.Lists.Digits.{length-digits}
-use Rattle.ledger.proofs.Ledger.Records.{chain-links-length, chain-links-sum}
+use Rattle.ledger.proofs.Ledger.Records.{chain-links-length, head, head-length, record-is, upTo, beyond, record-at, up-to-length}
 use Rattle.model.specs.Moves.{partPut}
 use Rattle.place_laws.proofs.Links.{put-within, put-here}
 
@@ -49,41 +49,6 @@ bytes-same t l l′ nx nx′ pr pr′ cn cn′ x same calc next prior = byCases 
     (λ e. rw (← same, e, links-same t l l′ nx nx′ pr pr′ cn cn′ x (rw same) (calc e) (next e) (prior e)))
     (λ e. rw (← same, e))
 
--- the five bytes before the data, and the CALC NEXT of a calculated record
-abbrev head : List ℕ → Ledger → ℕ → List ℕ
-head t l x = digits 2 (kindAt l x) ++ digits 2 (recordSize t (kindAt l x)) ++ digits 1 (lineOf x)
-
-abbrev calcLink : List ℕ → Ledger → (ℕ → ℕ) → ℕ → List ℕ
-calcLink t l cn x = cond (calculated t (kindAt l x)) (digits 3 (cn x)) []
-
-head-length : (t : List ℕ) (l : Ledger) (x : ℕ) → length (head t l x) ≡ 5
-unfolding digits
-head-length t l x = refl
-
-calc-link-length : (t : List ℕ) (l : Ledger) (cn : ℕ → ℕ) (x : ℕ) → length (calcLink t l cn x) ≡ cond (calculated t (kindAt l x)) 3 0
-unfolding digits
-calc-link-length t l cn x = byCases (calculated t (kindAt l x)) (λ e. rw e) (λ e. rw e)
-
--- the bytes up to chain j's links, and those behind them
-abbrev upTo : List ℕ → Ledger → (ℕ → ℕ → ℕ) → (ℕ → ℕ → ℕ) → (ℕ → ℕ) → ℕ → ℕ → List ℕ
-upTo t l nx pr cn x j = head t l x ++ bytesAt l x ++ calcLink t l cn x ++ concatOf (chainLinks t l nx pr x) (run 0 j)
-
-abbrev beyond : List ℕ → Ledger → (ℕ → ℕ → ℕ) → (ℕ → ℕ → ℕ) → ℕ → ℕ → List ℕ
-beyond t l nx pr x j = concatOf (chainLinks t l nx pr x) (run (suc j) (chains t - suc j))
-
-record-is : (t : List ℕ) (l : Ledger) (nx pr : ℕ → ℕ → ℕ) (cn : ℕ → ℕ) (x : ℕ) → present l x ≡ true
-    → bytesWith t l nx pr cn x ≡ head t l x ++ bytesAt l x ++ links t l nx pr cn x
-unfolding bytesWith
-record-is t l nx pr cn x there = rw there
-
-record-at : (t : List ℕ) (l : Ledger) (nx pr : ℕ → ℕ → ℕ) (cn : ℕ → ℕ) (x : ℕ) → present l x ≡ true → (j : ℕ) → j < chains t
-    → bytesWith t l nx pr cn x ≡ upTo t l nx pr cn x j ++ (chainLinks t l nx pr x j ++ beyond t l nx pr x j)
-unfolding links
-record-at t l nx pr cn x there j lt =
-    let e : j - 0 ≡ j = omega arith in
-    let f : 0 + chains t - suc j ≡ chains t - suc j = omega arith in
-    rw (record-is t l nx pr cn x there, concatOf-at (chainLinks t l nx pr x) 0 (chains t) j (omega arith) (omega arith), e, f) (simp append-assoc)
-
 module _ (t : List ℕ) (l : Ledger) (nx pr : ℕ → ℕ → ℕ) (cn : ℕ → ℕ) (x : ℕ)
     (there : present l x ≡ true) (full : length (bytesAt l x) ≡ dataLen t (row t (kindAt l x))) where
   -- other data put in
@@ -91,8 +56,8 @@ module _ (t : List ℕ) (l : Ledger) (nx pr : ℕ → ℕ → ℕ) (cn : ℕ →
       → partPut (bytesWith t l nx pr cn x) 5 (bytesAt l′ x) ≡ bytesWith t l′ nx pr cn x
   data-bytes l′ there′ kind size =
       let same = links-same t l l′ nx nx pr pr cn cn x kind (λ c. refl) (λ j lt c. refl) (λ j lt c e. refl) in
-      rw (record-is t l nx pr cn x there, record-is t l′ nx pr cn x there′, append-assoc (head t l x), append-assoc (head t l′ x), ← kind, ← same)
-      (put-here (head t l x) (bytesAt l x) (links t l nx pr cn x) (bytesAt l′ x) 5 (head-length t l x) size)
+      rw (record-is t l nx pr cn x there, record-is t l′ nx pr cn x there′, append-assoc (head t l nx pr cn x), append-assoc (head t l′ nx pr cn x), ← kind, ← same)
+      (put-here (head t l nx pr cn x) (bytesAt l x) (links t l nx pr cn x) (bytesAt l′ x) 5 (head-length t l nx pr cn x) size)
 
   -- another CALC NEXT
   pub calc-bytes : (cn′ : ℕ → ℕ) → calculated t (kindAt l x) ≡ true
@@ -100,7 +65,7 @@ module _ (t : List ℕ) (l : Ledger) (nx pr : ℕ → ℕ → ℕ) (cn : ℕ →
   unfolding links calcAt
   calc-bytes cn′ c =
       rw (record-is t l nx pr cn x there, record-is t l nx pr cn′ x there, c)
-      (put-here (head t l x ++ bytesAt l x) (digits 3 (cn x)) (concatOf (chainLinks t l nx pr x) (run 0 (chains t))) (digits 3 (cn′ x)) _
+      (put-here (head t l nx pr cn x ++ bytesAt l x) (digits 3 (cn x)) (concatOf (chainLinks t l nx pr x) (run 0 (chains t))) (digits 3 (cn′ x)) _
       (rw (length-append, head-length, full)) (rw (length-digits 3 (cn x), length-digits 3 (cn′ x))))
 
   -- another link of chain j: what is put into its links is put into the record
@@ -114,9 +79,8 @@ module _ (t : List ℕ) (l : Ledger) (nx pr : ℕ → ℕ → ℕ) (cn : ℕ →
       chain-links-same t l l nx nx′ pr pr′ cn cn x refl i (λ c. next i ne) (λ c e. prior i ne) in
       let low = concatOf-same (chainLinks t l nx′ pr′ x) (chainLinks t l nx pr x) 0 j (λ i lo hi. same i (λ e. omega arith)) in
       let high = concatOf-same (chainLinks t l nx′ pr′ x) (chainLinks t l nx pr x) (suc j) (chains t - suc j) (λ i lo hi. same i (λ e. omega arith)) in
-      let size : length (upTo t l nx pr cn x j) ≡ linkAt t (kindAt l x) j = rw (length-append, length-append, length-append, head-length, full, calc-link-length, chain-links-sum) in
       rw (record-at t l nx pr cn x there j lt, record-at t l nx′ pr′ cn x there j lt, ← new, ← low, ← high)
-      (put-within (upTo t l nx pr cn x j) (chainLinks t l nx pr x j) (beyond t l nx pr x j) d _ k size (rw chain-links-length inside))
+      (put-within (upTo t l nx pr cn x j) (chainLinks t l nx pr x j) (beyond t l nx pr cn x j) d _ k (up-to-length t l nx pr cn x full j) (rw chain-links-length inside))
 
   pub next-bytes : (nx′ : ℕ → ℕ → ℕ) (j : ℕ) → j < chains t → inChain t j (kindAt l x) ≡ true → ((i : ℕ) → i ≢ j → nx i x ≡ nx′ i x)
       → partPut (bytesWith t l nx pr cn x) (linkAt t (kindAt l x) j) (digits 3 (nx′ j x)) ≡ bytesWith t l nx′ pr cn x

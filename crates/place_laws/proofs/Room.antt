@@ -16,8 +16,8 @@ use Rattle.ledger.specs.Bytes.{twoAt, lineAt, sizeAt, startOf, Formed}
 use Rattle.ledger.specs.Image.{Imaged}
 use Rattle.ledger.proofs.Lists.Tests.{byCases}
 use Rattle.ledger.proofs.Bytes.Pages.{free-number}
-use Rattle.ledger.proofs.Bytes.Places.{start-first, start-next, free-byte}
-use Rattle.ledger.proofs.Bytes.Lookup.{size-there, line-there}
+use Rattle.ledger.proofs.Bytes.Places.{start-first, start-next}
+use Rattle.ledger.proofs.Bytes.Lookup.{size-there, line-there, line-other}
 use Rattle.ledger.proofs.Bytes.Moves.{flags-small}
 use Rattle.model.specs.Reads.{pageIn}
 use Rattle.model.specs.Room.{flagsAt, gapFrom, firstGap}
@@ -57,25 +57,6 @@ module _ (g : List ℕ) (at k n : ℕ) where
 -- A page of formed records.
 module _ (r : ℕ → List ℕ) (h : ℕ → ℕ) (p : ℕ) (fits : used r p ≤ 496)
     (formed : (x : ℕ) → 0 < length (r x) → Formed x (r x)) where
-  -- what stands where line k's record would stand is of no line before it
-  line-after : (n k j : ℕ) → k + n ≡ 64 → 1 ≤ j → j < k → lineAt (page r h p) (startOf r p k) ≢ j
-  unfolding lineAt
-  line-after zero k j e lo lt at =
-      let last : k ≡ 64 = omega arith in
-      let z : lineAt (page r h p) (startOf r p k) ≡ 0 = rw last (free-byte r h p 4) in
-      omega arith
-  line-after (suc n) k j e lo lt at = byCases (eqb (length (r (codeOf p k))) 0)
-      (λ none.
-      let z : length (r (codeOf p k)) ≡ 0 = eqb-true _ _ none in
-      let s : startOf r p (suc k) ≡ startOf r p k = omega (arith, start-next r p k (omega arith)) in
-      line-after n (suc k) j (omega arith) lo (omega arith) (rw s at))
-      (λ some. omega (arith, line-there r h p fits formed k (omega arith) (omega arith) (omega (arith, eqb-false (length (r (codeOf p k))) 0 some))))
-
-  line-other : (k : ℕ) → 1 ≤ k → k ≤ 63 → length (r (codeOf p k)) ≡ 0 → lineAt (page r h p) (startOf r p k) ≢ k
-  line-other k lo hi z =
-      let s : startOf r p (suc k) ≡ startOf r p k = omega (arith, start-next r p k lo) in
-      rw s at (line-after (64 - suc k) (suc k) k (omega arith) lo (omega arith))
-
   gap-from : (n k : ℕ) → k + n ≡ 64 → 1 ≤ k
       → (gapFrom (page r h p) (startOf r p k) k n .line ≡ firstOf (lineFree r p) (run k n))
       × (0 < gapFrom (page r h p) (startOf r p k) k n .line
@@ -85,7 +66,7 @@ module _ (r : ℕ → List ℕ) (h : ℕ → ℕ) (p : ℕ) (fits : used r p ≤
   gap-from (suc n) k e lo = byCases (lineFree r p k)
       (λ none.
       let z : length (r (codeOf p k)) ≡ 0 = unfold lineFree in eqb-true _ _ none in
-      rw (gap-here (page r h p) (startOf r p k) k n (line-other k lo (omega arith) z), none) (refl, λ some. refl))
+      rw (gap-here (page r h p) (startOf r p k) k n (line-other r h p fits formed k lo (omega arith) z), none) (refl, λ some. refl))
       (λ some.
       let full : 0 < length (r (codeOf p k)) = unfold lineFree in omega (arith, eqb-false (length (r (codeOf p k))) 0 some) in
       rw (
@@ -109,12 +90,9 @@ module _ (t f : List ℕ) (r : ℕ → List ℕ) (h : ℕ → ℕ) (a : Accepted
   unfolding pageIn
   image-page-in = rw (ne-eqb p 0 (λ z. omega arith)) (image-page t f r h a i p lo hi)
 
-  -- its free bytes and its line flags
+  -- its free bytes
   pub image-free : twoAt (pageIn f p) 3 ≡ free r p
   image-free = rw image-page-in (free-read r h p)
-
-  pub image-flags : flagsAt (pageIn f p) ≡ flags r p
-  image-flags = rw image-page-in (flags-read r h p)
 
   -- its lowest line without a record, 0 where all have one, and where that line's record would start
   pub image-gap : firstGap (pageIn f p) .line ≡ firstOf (λ k. eqb (length (r (codeOf p k))) 0) (run 1 63)

@@ -9,20 +9,19 @@ use lib.ListN.{length}
 use lib.Seq.{take-nil}
 use lib.Dec.{eqb}
 use borrow.Author.Tests.{ne-eqb}
-use Rattle.ledger.specs.Numbers.{run}
 use Rattle.ledger.specs.Table.{pages, chains, calculated, inChain, linkedPrior, Accepted}
-use Rattle.ledger.specs.Pages.{codeOf, recordSize, Ledger, bytesOf, kindAt, bytesAt, present, homeOf, nextOf, priorOf, calcNext, headNext, used, chainLinks, links, bytesWith, fileWith, recordBytes, layout, Placed, WellFormed}
-use Rattle.ledger.specs.Bytes.{twoAt, Formed}
+use Rattle.ledger.specs.Pages.{codeOf, recordSize, Ledger, bytesOf, kindAt, bytesAt, present, homeOf, nextOf, priorOf, calcNext, headNext, used, bytesWith, fileWith, recordBytes, layout, Placed, WellFormed}
+use Rattle.ledger.specs.Bytes.{twoAt}
 use Rattle.ledger.specs.Image.{kindRead, dataRead, nextRead, priorRead, Paged, Imaged}
 use Rattle.ledger.proofs.Lists.Tests.{byCases, clash}
-use Rattle.ledger.proofs.Lists.Digits.{part-two, part-three, Bytes, nil-bytes, append-bytes, digits-bytes, cond-bytes, concat-bytes}
-use Rattle.ledger.proofs.Bytes.Writes.{used-same}
-use Rattle.ledger.proofs.Ledger.Entries.{absent-none, absent-kind, placed-as}
-use Rattle.ledger.proofs.Ledger.Rows.{kind-within, size-least, size-small, code-listed, listed-small}
+use Rattle.ledger.proofs.Lists.Digits.{part-two, part-three}
+use Rattle.ledger.proofs.Bytes.Writes.{used-same, laid-same}
+use Rattle.ledger.proofs.Ledger.Entries.{absent-none, absent-kind}
+use Rattle.ledger.proofs.Ledger.Rows.{kind-within, size-least, code-listed, listed-small}
 use Rattle.ledger.proofs.Ledger.Bounds.{next-small, prior-small, calc-next-small, head-next-small, homeOf-within}
-use Rattle.ledger.proofs.Ledger.Records.{absent-with, record-length, kind-part, size-part, line-byte, data-part, calc-part, next-part, prior-part, record-sized}
+use Rattle.ledger.proofs.Ledger.Records.{absent-with, record-length, kind-part, data-part, calc-part, next-part, prior-part, formed-with, record-sized}
+use Rattle.ledger.proofs.Image.Laid.{with-bytes}
 use Rattle.model.specs.Reads.{placeIn, kindIn, nextIn, priorIn, calcNextIn, headNextIn, dataIn}
-use Rattle.place_laws.proofs.Links.{laid-same}
 use Rattle.place_laws.proofs.Pieces.{bytes-same}
 use Rattle.place_laws.proofs.Image.{none-no-chain, image-there, image-kind, image-data, image-next, image-prior, image-calc-next, image-head}
 
@@ -64,19 +63,6 @@ with-chain t l a j x lt c = byCases (present l x)
 pub held-small : (t : List ℕ) (l : Ledger) → Accepted t → Held t l → (x : ℕ) → present l x ≡ true → x < 16777216
 held-small t l a w x e = omega (arith, listed-small t x (code-listed t l x a (w .placed x e)), a .page-count .1)
 
--- records of the same types, in the same places, have the same room
-pub held-as : (t : List ℕ) (l l′ : Ledger) → Held t l → ((x : ℕ) → present l′ x ≡ true → Placed t l′ x)
-    → ((x : ℕ) → present l′ x ≡ present l x) → ((x : ℕ) → kindAt l′ x ≡ kindAt l x) → Held t l′
-held-as t l l′ w placed same kind =
-    let lengths : (x : ℕ) → length (recordBytes t l′ x) ≡ length (recordBytes t l x) = λ x.
-    record-sized t l′ x (λ e. placed x e .full) ∙ rw (same x, kind x) (sym (record-sized t l x (λ e. w .placed x e .full))) in
-    record { placed = placed; room = λ p. rw (used-same (recordBytes t l) (recordBytes t l′) p (λ k lo hi. lengths (codeOf p k))) (w .room p) }
-
--- so rings do not matter
-pub held-same : (t : List ℕ) (l l′ : Ledger) → ((x : ℕ) → l .at x ≡ l′ .at x) → Held t l → Held t l′
-held-same t l l′ same w =
-    held-as t l l′ w (λ x e. placed-as t l l′ x (sym (same x)) (w .placed x (rw (same x) e))) (λ x. rw (same x)) (λ x. rw (same x))
-
 -- A file is told by its records and by the links that they have.
 pub with-same : (t : List ℕ) (l l′ : Ledger) (nx nx′ pr pr′ : ℕ → ℕ → ℕ) (cn cn′ hd hd′ : ℕ → ℕ) → ((x : ℕ) → l .at x ≡ l′ .at x)
     → ((j x : ℕ) → j < chains t → present l x ≡ true → inChain t j (kindAt l x) ≡ true → nx j x ≡ nx′ j x)
@@ -108,16 +94,6 @@ module _ (t : List ℕ) (l : Ledger) (nx pr : ℕ → ℕ → ℕ) (cn : ℕ →
   pub some-present : (x : ℕ) → 0 < length (bytesWith t l nx pr cn x) → present l x ≡ true
   some-present x some = byCases (present l x) (λ e. e) (λ e. absurd (omega (arith, ap length (absent-with t l nx pr cn x e))))
 
-  formed : (x : ℕ) → present l x ≡ true → Formed x (bytesWith t l nx pr cn x)
-  formed x e =
-      let p = w .placed x e in
-      let s = size-small t (kindAt l x) a (p .typed) in
-      let b = bytes-length x e in record {
-        long = omega (arith, size-least t (kindAt l x));
-        size = part-two (bytesWith t l nx pr cn x) 2 _ (size-part t l nx pr cn x e (p .full)) (omega arith) ∙ sym b;
-        line = line-byte t l nx pr cn x e (p .full);
-      }
-
   pub kind-read : (x : ℕ) → kindRead (bytesWith t l nx pr cn x) ≡ kindAt l x
   kind-read x = byCases (present l x)
       (λ e. let p = w .placed x e in
@@ -129,36 +105,19 @@ module _ (t : List ℕ) (l : Ledger) (nx pr : ℕ → ℕ → ℕ) (cn : ℕ →
       (λ e. rw (kind-read x) (data-part t l nx pr cn x e (w .placed x e .full)))
       (λ e. rw (absent-with t l nx pr cn x e, absent-none (l .at x) e, take-nil) (unfold bytesOf in refl))
 
-  chain-links-bytes : (x j : ℕ) → Bytes (chainLinks t l nx pr x j)
-  unfolding chainLinks
-  chain-links-bytes x j =
-      cond-bytes (inChain t j (kindAt l x)) (append-bytes (digits-bytes 3 _) (cond-bytes (eqb (linkedPrior t j) 1) (digits-bytes 3 _) nil-bytes)) nil-bytes
-
-  links-bytes : (x : ℕ) → Bytes (links t l nx pr cn x)
-  unfolding links
-  links-bytes x =
-      append-bytes (cond-bytes (calculated t (kindAt l x)) (digits-bytes 3 _) nil-bytes)
-      (concat-bytes (chainLinks t l nx pr x) (run 0 (chains t)) (chain-links-bytes x))
-
-  record-bytes : (x : ℕ) → present l x ≡ true → Bytes (bytesWith t l nx pr cn x)
-  unfolding bytesWith
-  record-bytes x e =
-      rw e (append-bytes (append-bytes (append-bytes (append-bytes (digits-bytes 2 _) (digits-bytes 2 _)) (digits-bytes 1 _))
-      (record { small = w .placed x e .bytes })) (links-bytes x))
-
   pub with-paged : Paged t (bytesWith t l nx pr cn)
   with-paged = record {
     standing = λ x some.
         let e = some-present x some in
         let p = w .placed x e in
         let k = kind-read x in record {
-          head = formed x e;
+          head = formed-with t l nx pr cn x a p e;
           typed = rw k (p .typed);
           whole = rw k (bytes-length x e);
           low-page = rw k (p .low-page);
           high-page = rw k (p .high-page);
           on-a-line = p .on-a-line;
-          bytes = record-bytes x e .small;
+          bytes = with-bytes t l nx pr cn x e p .small;
         };
     room = with-room;
   }

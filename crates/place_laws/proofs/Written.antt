@@ -11,12 +11,13 @@ use Rattle.ledger.specs.Numbers.{digits, update}
 use Rattle.ledger.specs.Table.{pages, chains, calculated, inChain, linkedPrior, Accepted}
 use Rattle.ledger.specs.Pages.{pageOf, lineOf, recordSize, Ledger, kindAt, present, laid, bytesWith, fileWith}
 use Rattle.ledger.proofs.Lists.Tests.{byCases, same-or-not, update-same, update-other}
+use Rattle.ledger.proofs.Bytes.Writes.{laid-same}
 use Rattle.ledger.proofs.Ledger.Fields.{calc-inside}
 use Rattle.model.specs.Reads.{placeIn}
 use Rattle.model.specs.Writes.{linkPut, nextPut, priorPut, calcNextPut, headPut, calcPut, joinedIn, linkedIn}
 use Rattle.model.specs.Moves.{partPut}
 use Rattle.place_laws.proofs.Image.{next-inside, prior-inside}
-use Rattle.place_laws.proofs.Links.{laid-same, three-put, image-link-put, image-head-put}
+use Rattle.place_laws.proofs.Links.{three-put, image-link-put, image-head-put}
 use Rattle.place_laws.proofs.Pieces.{bytes-same, calc-bytes, next-bytes, prior-bytes}
 use Rattle.place_laws.proofs.With.{Held, Small, with-chain, held-small, with-same, bytes-length, bytes-some, with-imaged, with-kind}
 

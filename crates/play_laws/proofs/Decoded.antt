@@ -118,9 +118,3 @@ bad-exactly line = elim (line-reads line) [
   | inl (b, z) ↦ ((λ e. b), λ e. z)
   | inr (b, c) ↦ ((λ e. absurd (omega (arith, c .1 .count, c .1 .some-bytes))), λ e. clash _ e b)
 ]
-
-pub line-carries : (line : List ℕ) → lineBad line ≡ false → (fr : List ℕ) × Carries line fr
-line-carries line e = elim (line-reads line) [
-  | inl (b, z) ↦ clash _ b e
-  | inr (b, c) ↦ c
-]

@@ -5,7 +5,7 @@ use mathlib.Core.Logic.{_⊎_, inl, inr}
 use mathlib.Core.Bool.{true, false}
 use mathlib.Core.List.{List, [], _∷_, _++_, append-nil}
 use native.Mathlib.Omega.{arith}
-use native.Mathlib.Nat.{add-zero, zero-add}
+use native.Mathlib.Nat.{zero-add}
 use mir.Syntax.{w8}
 use mir.Val.{Fits}
 use lib.ListN.{length, getD, set, take, drop, replicate, length-append, length-drop, take-append-drop, drop-of-length-le}
@@ -18,6 +18,7 @@ use Rattle.ledger.specs.Numbers.{digits}
 use Rattle.ledger.specs.Player.{callMade}
 use Rattle.ledger.specs.Interface.{currencyIn, wordsOf, eightOf, Lends}
 use Rattle.ledger.proofs.Lists.Tests.{byCases, same-or-not, clash}
+use Rattle.ledger.proofs.Lists.Parts.{sets-append}
 use Rattle.model.specs.Writes.{threePut}
 use Rattle.model.specs.Moves.{twoPut, partPut}
 use Rattle.play_model.specs.Plays.{playOn}
@@ -25,13 +26,7 @@ use Rattle.gerunjap_model.specs.Lent.{sixteenOf, currencyOf, currencyPut, answe
 use Rattle.play_laws.proofs.Frames.{play-promised}
 use Rattle.play_laws.proofs.Sixteens.{Sixteen, play-sixteen}
 
--- lists put one after another, past the end, and over a whole list
-sets-append : (u v out : List ℕ) (i : ℕ) → sets out i (u ++ v) ≡ sets (sets out i u) (i + length u) v
-sets-append [] v out i = rw (add-zero i)
-sets-append (x ∷ u) v out i =
-    let e : i + suc (length u) ≡ suc i + length u = omega arith in
-    rw e (sets-append u v (set out i x) (suc i))
-
+-- a list put past the end, and over a whole list
 sets-past : (v out : List ℕ) (i : ℕ) → length out ≤ i → sets out i v ≡ out
 sets-past [] out i h = refl
 sets-past (x ∷ v) out i h = rw (set-out out i x h) (sets-past v out (suc i) (omega arith))
@@ -40,7 +35,7 @@ sets-whole : (v out : List ℕ) (n : ℕ) → length out ≡ n → n ≤ length 
 sets-whole v out n e h =
     let size : length (take n v) ≡ n = length-take-le n v h in
     let front : sets out 0 (take n v) ≡ take n v = sets-eq (take n v) out 0 (omega arith) ∙ rw (zero-add, size, drop-of-length-le out {i = n} (omega arith), append-nil) in
-    let split : sets out 0 (take n v ++ drop n v) ≡ sets (take n v) n (drop n v) = sets-append (take n v) (drop n v) out 0 ∙ rw (front, zero-add, size) in
+    let split : sets out 0 (take n v ++ drop n v) ≡ sets (take n v) n (drop n v) = sets-append out 0 (take n v) (drop n v) ∙ rw (front, zero-add, size) in
     (rw take-append-drop at split) ∙ sets-past (drop n v) (take n v) n (omega arith)
 
 -- 33 words are a currency
@@ -65,7 +60,7 @@ module _ (ws : List ℕ) (words : length ws ≡ 33) where
       let size : length (cur .run ∷ (cur .types ++ cur .chains)) ≡ 33 = omega (arith, length-append (cur .types) (cur .chains), full .types, full .chains) in
       let e : 1 + length (cur .types) ≡ 17 = omega (arith, full .types) in
       let one : sets ws 0 (cur .run ∷ (cur .types ++ cur .chains)) ≡ sets (sets (set ws 0 (cur .run)) 1 (cur .types)) 17 (cur .chains) =
-      sets-append (cur .types) (cur .chains) (set ws 0 (cur .run)) 1 ∙ rw e in
+      sets-append (set ws 0 (cur .run)) 1 (cur .types) (cur .chains) ∙ rw e in
       sym one ∙ sets-whole (cur .run ∷ (cur .types ++ cur .chains)) ws 33 words (omega arith)
       ∙ take-all 33 (cur .run ∷ (cur .types ++ cur .chains)) (omega arith)
 

@@ -1,18 +1,18 @@
 -- A call hands back a currency of sixteen entries for types and sixteen for chains where it was given one.
 use Prim.Native.Nat.{ℕ, zero, suc, _+_}
-use mathlib.Core.Path.{_≡_, refl, _∙_, ap}
+use mathlib.Core.Path.{_≡_, refl, _∙_}
 use mathlib.Core.Bool.{Bool, cond, not}
-use mathlib.Core.List.{List, [], _∷_}
+use mathlib.Core.List.{List}
 use lib.ListN.{length, getD, set, drop, length-set}
 use lib.Dec.{eqb, ltb}
 use Rattle.ledger.specs.declared.Currency.{Currency}
 use Rattle.ledger.specs.declared.Outcome.{Outcome}
-use Rattle.ledger.specs.Numbers.{byIndex}
 use Rattle.ledger.specs.Table.{row, dataLen, keyLen, sortLen, order, defined, calculated}
 use Rattle.ledger.specs.Bytes.{twoAt, threeAt}
 use Rattle.ledger.specs.Currency.{typeCurrent, chainCurrent}
 use Rattle.ledger.specs.Calls.{noChain}
 use Rattle.ledger.proofs.Lists.Tests.{byCases}
+use Rattle.ledger.proofs.Lists.Parts.{length-byIndex}
 use Rattle.model.specs.declared.Found.{Found}
 use Rattle.model.specs.Reads.{kindIn, nextIn}
 use Rattle.ring_model.specs.Rings.{masterIn, beforeIn}
@@ -36,11 +36,6 @@ pub record Sixteen (cur : Currency) : Type 0 where
 -- of two that a test chooses from
 full-cond : {A : Type 0} (g : A → Currency) (b : Bool) {x y : A} → Sixteen (g x) → Sixteen (g y) → Sixteen (g (cond b x y))
 full-cond g b p q = byCases b (λ e. rw e p) (λ e. rw e q)
-
-length-byIndex : (g : ℕ → ℕ → ℕ) (i : ℕ) (xs : List ℕ) → length (byIndex g i xs) ≡ length xs
-unfolding byIndex
-length-byIndex g i [] = refl
-length-byIndex g i (x ∷ xs) = ap suc (length-byIndex g (suc i) xs)
 
 length-entries : (t : List ℕ) (n x : ℕ) (es : List ℕ) (j m : ℕ) → length (entriesFrom t n x es j m) ≡ length es
 unfolding entriesFrom

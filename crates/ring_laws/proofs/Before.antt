@@ -12,16 +12,16 @@ use Rattle.ledger.specs.Numbers.{elem, once, follower}
 use Rattle.ledger.specs.Table.{pages, chains, inChain, linkedPrior, Accepted}
 use Rattle.ledger.specs.Pages.{Ledger, kindAt, masterOf, priorOf, round, WellFormed, Sound}
 use Rattle.ledger.proofs.Lists.Tests.{byCases, clash}
-use Rattle.ledger.proofs.Lists.Members.{split-at-member}
+use Rattle.ledger.proofs.Lists.Members.{others, split-at-member}
 use Rattle.ledger.proofs.Lists.Pairs.{once-right}
 use Rattle.ledger.proofs.Lists.Followers.{before-in}
 use Rattle.ledger.proofs.Ledger.Rings.{chained, prior-round}
 use Rattle.ledger.proofs.Ledger.Calcs.{head-no-member}
 use Rattle.model.specs.Reads.{nextIn, calcNextIn, headNextIn}
 use Rattle.ring_model.specs.Rings.{ringFuel, backIn, beforeIn, calcBeforeIn}
-use Rattle.ring_laws.proofs.Homes.{home-as, home-parts, others, back-home, back-round}
+use Rattle.ring_laws.proofs.Homes.{home-as, home-parts, back-home, back-round}
 use Rattle.ring_laws.proofs.Rounds.{ring-few, calc-few, master-type, round-master, master-outside}
-use Rattle.ring_laws.proofs.Shown.{Shows, ShowsCalc, sound-shows, sound-shows-calc, shown-agrees, shown-calc-home}
+use Rattle.ring_laws.proofs.Shown.{Shows, ShowsCalc, sound-shows, shown-agrees, shown-calc-home}
 
 pub shown-before : (t f : List ℕ) (l : Ledger) (j : ℕ) → Accepted t → WellFormed t l → Shows t f l j → (x : ℕ) → j < chains t → inChain t j (kindAt l x) ≡ true
     → beforeIn t f j x ≡ priorOf t l j x
@@ -55,6 +55,3 @@ shown-calc-before t f l a w s p x lo hi e =
 module _ (t f : List ℕ) (l : Ledger) (a : Accepted t) (s : Sound t f l) where
   pub sound-before : (j x : ℕ) → j < chains t → inChain t j (kindAt l x) ≡ true → beforeIn t f j x ≡ priorOf t l j x
   sound-before j x lt in-it = shown-before t f l j a (s .formed) (sound-shows t f l a s j lt) x lt in-it
-
-  pub sound-calc-before : (p x : ℕ) → 1 ≤ p → p ≤ pages t → elem x (l .calc p) ≡ true → calcBeforeIn t f p x ≡ follower x (round (64 * p) (reverse (l .calc p)))
-  sound-calc-before = shown-calc-before t f l a (s .formed) (sound-shows-calc t f l a s)

@@ -20,7 +20,6 @@ use Rattle.ledger.proofs.Lists.Puts.{Stopped, stopped}
 use Rattle.ledger.proofs.Audit.Walks.{Home}
 use Rattle.model.specs.declared.Between.{Between}
 use Rattle.model.specs.Reads.{nextIn}
-use Rattle.place_laws.proofs.Sound.{sound-sort-key}
 use Rattle.ring_model.specs.Rings.{ringFuel, goesBefore, keyStops, stopsIn, nextWithoutIn, betweenFrom, betweenIn}
 use Rattle.ring_laws.proofs.Rounds.{ring-few, zero-no-member, zero-no-master}
 use Rattle.ring_laws.proofs.Shown.{Shows, sound-shows, shown-sort-key, shown-home}
@@ -100,15 +99,7 @@ module _ (t f : List ℕ) (l : Ledger) (j : ℕ) (a : Accepted t) (w : WellForme
         rw e at (shown-between-at 0 (λ z. zero-no-master t l a w j m lt top (sym z)) y (stopped (stops t l j key) y _))
 
 -- in a sound file
-pub sound-stops : (t f : List ℕ) (l : Ledger) → Accepted t → Sound t f l → (j : ℕ) (key : List ℕ) (y : ℕ) → stopsIn t f j key y ≡ stops t l j key y
-unfolding stopsIn keyStops goesBefore stops
-sound-stops t f l a s j key y = rw (sound-sort-key t f l a s j y)
-
 module _ (t f : List ℕ) (l : Ledger) (a : Accepted t) (s : Sound t f l) (j m : ℕ) (lt : j < chains t) (top : isMaster t j (kindAt l m) ≡ true) (key : List ℕ) where
-  pub sound-between-at : (x : ℕ) → x ≢ m → (y : ℕ) (p : Stopped (stops t l j key) y (without x (l .ring j m)))
-      → _≡_ {A = Between} (betweenIn t f j m key x) (record { before = lastOr m (p .passed); after = headOr m (p .rest) })
-  sound-between-at = shown-between-at t f l j a (s .formed) (sound-shows t f l a s j lt) m top key
-
   pub sound-between : (x : ℕ) → x ≢ m
       → let p = stopped (stops t l j key) x (without x (l .ring j m)) in
       _≡_ {A = Between} (betweenIn t f j m key x) (record { before = lastOr m (p .passed); after = headOr m (p .rest) })

@@ -14,7 +14,6 @@ use Rattle.ledger.proofs.Lists.Tests.{byCases, eqb-same}
 use Rattle.ledger.proofs.Ledger.Rows.{home-within}
 use Rattle.model.specs.declared.Found.{Found}
 use Rattle.model.specs.Reads.{nextIn, calcNextIn}
-use Rattle.place_laws.proofs.Sound.{sound-sort-key}
 use Rattle.ring_model.specs.Rings.{ringFuel, hasKeyIn, hasCalcKeyIn, keyFoundIn, keyTwinIn, calcFoundIn, calcTwinIn}
 use Rattle.ring_laws.proofs.Homes.{found-home}
 use Rattle.ring_laws.proofs.Rounds.{ring-few, calc-few}
@@ -78,20 +77,12 @@ module _ (t f : List ℕ) (l : Ledger) (a : Accepted t) (w : WellFormed t l) (s 
 
 -- in a sound file
 module _ (t f : List ℕ) (l : Ledger) (a : Accepted t) (s : Sound t f l) where
-  pub sound-has-key : (j : ℕ) (key : List ℕ) (x y : ℕ) → hasKeyIn t f j key x y ≡ (not (eqb y x) && sameKey (keyIn t l j y) key)
-  unfolding hasKeyIn
-  sound-has-key j key x y = rw (sound-sort-key t f l a s j y)
-
   pub sound-key-found : (j m : ℕ) → j < chains t → isMaster t j (kindAt l m) ≡ true → (key : List ℕ) (x : ℕ)
       → keyFoundIn t f j m key x ≡ foundOf (λ y. not (eqb y x) && sameKey (keyIn t l j y) key) (l .ring j m)
   sound-key-found j m lt top key x = shown-key-found t f l j a (s .formed) (sound-shows t f l a s j lt) m top key x
 
   pub sound-key-twin : (j m : ℕ) → j < chains t → isMaster t j (kindAt l m) ≡ true → (key : List ℕ) (x : ℕ) → keyTwinIn t f j m key x ≡ twinIn t l j m key x
   sound-key-twin j m lt top key x = shown-key-twin t f l j a (s .formed) (sound-shows t f l a s j lt) m top key x
-
-  pub sound-has-calc-key : (n : ℕ) (key : List ℕ) (x y : ℕ)
-      → hasCalcKeyIn t f n key x y ≡ (not (eqb y x) && eqb (kindAt l y) n && sameKey (calcKey t n (bytesAt l y)) key)
-  sound-has-calc-key = shown-has-calc-key t f l a (s .formed) (sound-shows-calc t f l a s)
 
   pub sound-calc-found : (p n : ℕ) → 1 ≤ p → p ≤ pages t → (key : List ℕ) (x : ℕ)
       → calcFoundIn t f p n key x ≡ foundOf (λ y. not (eqb y x) && eqb (kindAt l y) n && sameKey (calcKey t n (bytesAt l y)) key) (l .calc p)

@@ -7,14 +7,14 @@ use native.Mathlib.Omega.{arith}
 use native.Mathlib.Numerals.{add-one}
 use lib.Dec.{eqb}
 use lib.ListN.{length, length-append}
-use borrow.Author.Tests.{ne-eqb, not-true}
+use borrow.Author.Tests.{not-true}
 use Rattle.ledger.specs.Numbers.{elem, once, firstOf, placeFrom, lastOr, follower}
 use Rattle.ledger.specs.Pages.{round}
 use Rattle.ledger.specs.Walks.{Agrees}
-use Rattle.ledger.proofs.Lists.Tests.{byCases, same-or-not, clash, eqb-same}
-use Rattle.ledger.proofs.Lists.Members.{elem-here, elem-there, elem-tail, elem-past, elem-append, split-at-member}
+use Rattle.ledger.proofs.Lists.Tests.{byCases, same-or-not, eqb-same}
+use Rattle.ledger.proofs.Lists.Members.{others, elem-here, elem-there, elem-tail, elem-past, elem-append, split-at-member}
 use Rattle.ledger.proofs.Lists.Pairs.{once-right}
-use Rattle.ledger.proofs.Lists.Followers.{before-in, before-first}
+use Rattle.ledger.proofs.Lists.Followers.{lastOr-past, before-in, before-first}
 use Rattle.ledger.proofs.Audit.Walks.{Home, agrees-home}
 use Rattle.model.specs.declared.Found.{Found}
 use Rattle.ring_model.specs.Rings.{foundFrom, backFrom}
@@ -26,10 +26,6 @@ home-as nx nx′ det det′ m x [] own h = h
 home-as nx nx′ det det′ m x (y ∷ ys) own h =
     let (e, d) = own y (elem-here y ys) in
     (h .0, d, rw e (home-as nx nx′ det det′ m (nx y) ys (λ z i. own z (elem-tail z y ys i)) (h .2)))
-
--- the members of a list are other than a number that is not in it
-pub others : (c : ℕ) (xs : List ℕ) → elem c xs ≡ false → (y : ℕ) → elem y xs ≡ true → not (eqb y c) ≡ true
-others c xs off y e = rw (ne-eqb y c (λ i. clash (elem c xs) (rw i at e) off))
 
 module _ (nx : ℕ → ℕ) (det : ℕ → Bool) where
   -- the way to a member, and from it on
@@ -54,12 +50,6 @@ back-home nx c before at zero ys h lt = absurd (omega arith)
 back-home nx c before at (suc n) [] h lt = rw (h, eqb-same c)
 back-home nx c before at (suc n) (y ∷ ys) h lt = rw (h .0, not-true (eqb y c) (h .1)) (back-home nx c y (nx y) n ys (h .2) (omega arith))
 
--- the last is that of the second part
-pub last-past : (d m : ℕ) (zs ys : List ℕ) → lastOr d (zs ++ m ∷ ys) ≡ lastOr m ys
-unfolding lastOr
-last-past d m [] ys = refl
-last-past d m (z ∷ zs) ys = last-past z m zs ys
-
 -- round a ring from a member, or from its master, to the one before it
 pub back-round : (nx : ℕ → ℕ) (m : ℕ) (xs : List ℕ) (n : ℕ) → once xs ≡ true → elem m xs ≡ false → Agrees nx m xs → length xs < n
     → (x : ℕ) → elem x (m ∷ xs) ≡ true → backFrom nx x x (nx x) n ≡ follower x (round m (reverse xs))
@@ -76,7 +66,7 @@ back-round nx m xs n ones off agrees lt x e = same-or-not x m
     let way = home-as nx nx _ (λ y. not (eqb y x)) x (nx x) (zs ++ m ∷ ys) (λ y g. (refl, others x _ off′ y g)) turned in
     let size : length (ys ++ x ∷ zs) < n = rw s at lt in
     rw (s, before-in m x ys zs i right)
-    (back-home nx x x (nx x) n (zs ++ m ∷ ys) way (rw length-append (omega (arith, rw length-append at size))) ∙ last-past x m zs ys))
+    (back-home nx x x (nx x) n (zs ++ m ∷ ys) way (rw length-append (omega (arith, rw length-append at size))) ∙ lastOr-past x m zs ys))
 
 -- the walk to the first that passes
 pub found-home : (nx : ℕ → ℕ) (home passes q : ℕ → Bool) (m at place n : ℕ) (xs : List ℕ) → home m ≡ true → ((y : ℕ) → elem y xs ≡ true → passes y ≡ q y)

@@ -2,7 +2,6 @@
 pub mod Homes
 pub mod Rounds
 pub mod Shown
-pub mod Members
 pub mod Masters
 pub mod Before
 pub mod Found

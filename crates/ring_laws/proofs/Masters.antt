@@ -1,14 +1,16 @@
 -- The master of a record's ring, found by going round.
 use Prim.Native.Nat.{ℕ, zero, suc, _<_}
 use mathlib.Core.Path.{_≡_, refl}
-use mathlib.Core.Logic.{inl, inr}
+use mathlib.Core.Logic.{_≢_, inl, inr}
 use mathlib.Core.Bool.{true, not}
 use mathlib.Core.List.{List, [], _∷_}
 use native.Mathlib.Omega.{arith}
 use lib.ListN.{length}
 use borrow.Author.Tests.{not-true}
+use Rattle.ledger.specs.declared.Currency.{Currency}
 use Rattle.ledger.specs.Table.{chains, isMaster, inChain, Accepted}
 use Rattle.ledger.specs.Pages.{Ledger, kindAt, masterOf, WellFormed, Sound}
+use Rattle.ledger.specs.Currency.{chainCurrent, occurrence, InForce}
 use Rattle.ledger.proofs.Lists.Members.{elem-cases}
 use Rattle.ledger.proofs.Ledger.Rings.{chained}
 use Rattle.ledger.proofs.Audit.Walks.{Home, home-from}
@@ -48,3 +50,12 @@ shown-master t f l j a w s x lt in-it =
 pub sound-master : (t f : List ℕ) (l : Ledger) → Accepted t → Sound t f l → (j x : ℕ) → j < chains t → inChain t j (kindAt l x) ≡ true
     → masterIn t f j x ≡ masterOf t l j x
 sound-master t f l a s j x lt in-it = shown-master t f l j a (s .formed) (sound-shows t f l a s j lt) x lt in-it
+
+-- of a chain's current record: its occurrence
+pub sound-occurrence : (t f : List ℕ) (l : Ledger) (cur : Currency) → Accepted t → Sound t f l → InForce t l cur → (j : ℕ) → chainCurrent cur j ≢ 0
+    → masterIn t f j (chainCurrent cur j) ≡ occurrence t l cur j
+unfolding occurrence
+sound-occurrence t f l cur a s i j some = elim (i .chain-right j) [
+  | inl z ↦ absurd (some z)
+  | inr q ↦ sound-master t f l a s j (chainCurrent cur j) (q .0) (q .1)
+]

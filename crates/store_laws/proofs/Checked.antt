@@ -2,7 +2,6 @@
 use Prim.Native.Nat.{ℕ, _*_, _<_}
 use mathlib.Core.Path.{_≡_, refl, sym, _∙_, ap}
 use mathlib.Core.Logic.{_↔_}
-use mathlib.Core.Bool.{true}
 use mathlib.Core.List.{List}
 use native.Mathlib.Omega.{arith}
 use lib.ListN.{length, getD}
@@ -29,7 +28,7 @@ use Rattle.audit_laws.proofs.Firsts.{first-place}
 use Rattle.audit_laws.proofs.Exact.{audit-exactly}
 use Rattle.store_model.specs.Checks.{sizeRefusal, auditRefusal, currencyRefusal, refusalOn}
 use Rattle.store_model.specs.Changes.{Changed, changedUnless}
-use Rattle.store_model.specs.Calls.{checked, checkedWith}
+use Rattle.store_model.specs.Calls.{checkedWith}
 use Rattle.store_laws.proofs.Force.{in-force-exactly}
 
 -- 1 and 2

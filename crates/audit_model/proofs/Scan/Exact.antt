@@ -11,7 +11,7 @@ use lib.Dec.{leb, ltb}
 use borrow.Author.Tests.{le-leb, leb-true, leb-false, le-ltb}
 use Rattle.ledger.specs.Numbers.{run, sumOf}
 use Rattle.ledger.specs.Table.{pages, Accepted}
-use Rattle.ledger.specs.Pages.{codeOf, pageOf, lineOf, Ledger, used, page, laid, layout, recordBytes, headNext, Sound}
+use Rattle.ledger.specs.Pages.{codeOf, pageOf, lineOf, Ledger, used, page, laid, recordBytes, headNext, Sound}
 use Rattle.ledger.specs.Bytes.{threeAt}
 use Rattle.ledger.specs.Image.{Standing, Imaged}
 use Rattle.ledger.specs.Audit.{Audited}
@@ -19,9 +19,7 @@ use Rattle.ledger.proofs.Lists.Tests.{byCases, both, same-or-not}
 use Rattle.ledger.proofs.Lists.Runs.{sumOf-same, sumOf-most}
 use Rattle.ledger.proofs.Lists.Parts.{part-bytes}
 use Rattle.ledger.proofs.Bytes.Pages.{laid-page, laid-length}
-use Rattle.ledger.proofs.Ledger.Bounds.{head-next-small}
-use Rattle.ledger.proofs.Image.Laid.{laid-paged}
-use Rattle.ledger.proofs.Image.Images.{image-exactly}
+use Rattle.ledger.proofs.Image.Images.{image-exactly, sound-imaged}
 use Rattle.model.specs.Reads.{headNextIn}
 use Rattle.audit_model.specs.Scan.{scanPage, pagePart, scanFrom, scan, recordFrom, recordsIn, ScanExact}
 use Rattle.audit_model.proofs.Scan.Pages.{page-lines, used-told, page-told, pages-joined, head-there}
@@ -130,12 +128,6 @@ imaged-clean t f r h few i = pages-scan t f (pages t) 1 (λ q from to.
     let long : length f ≡ 512 * pages t = rw (i .bytes) (laid-length (pages t) r h (i .paged .room)) in
     let e : pagePart f q ≡ page r h q = rw (i .bytes) (laid-page (pages t) r h (i .paged .room) q from (omega arith)) in
     (omega arith, rw e (page-passes t r h q (i .paged .room q) (i .paged .standing) (omega arith))))
-
--- the bytes of a ledger are an image
-pub sound-imaged : (t f : List ℕ) (l : Ledger) → Accepted t → Sound t f l → Imaged t f (recordBytes t l) (headNext t l)
-unfolding layout
-sound-imaged t f l a s =
-    record { bytes = s .bytes; paged = laid-paged t l a (s .formed); heads = λ p lo hi. head-next-small t l a (s .formed) p hi }
 
 module _ (t f : List ℕ) (a : Accepted t) (small : (i : ℕ) → getD f i 0 < 256) (long : length f ≡ 512 * pages t) where
   -- no fault exactly where the file is an image

@@ -1,7 +1,6 @@
 -- The layout of records that stand as the table says passes the scan.
 use Prim.Native.Nat.{ℕ, zero, suc, _+_, _*_, _-_, _^_, _≤_, _<_}
 use mathlib.Core.Path.{_≡_, refl, sym, _∙_, ap}
-use mathlib.Core.Logic.{_≢_}
 use mathlib.Core.Bool.{true}
 use mathlib.Core.List.{List}
 use native.Mathlib.Omega.{arith}
@@ -12,14 +11,14 @@ use lib.Dec.{ltb}
 use borrow.Author.Tests.{eq-eqb, le-leb, ltb-true, ltb-false}
 use Rattle.ledger.specs.Numbers.{digits, run, sumOf}
 use Rattle.ledger.specs.Pages.{codeOf, pageOf, used, free, flags, page}
-use Rattle.ledger.specs.Bytes.{twoAt, threeAt, sizeAt, lineAt, startOf, Formed}
+use Rattle.ledger.specs.Bytes.{twoAt, threeAt, sizeAt, startOf, Formed}
 use Rattle.ledger.specs.Image.{kindRead, Standing}
 use Rattle.ledger.proofs.Lists.Tests.{byCases}
 use Rattle.ledger.proofs.Lists.Runs.{run-append, sumOf-append, powers-bound}
 use Rattle.ledger.proofs.Lists.Digits.{part-three}
 use Rattle.ledger.proofs.Bytes.Pages.{page-length, own-part, flags-part, free-number}
 use Rattle.ledger.proofs.Bytes.Places.{start-first, start-next, start-last, record-byte, record-inside, free-byte}
-use Rattle.ledger.proofs.Bytes.Lookup.{size-there, line-there}
+use Rattle.ledger.proofs.Bytes.Lookup.{size-there, line-there, line-other}
 use Rattle.model.specs.Room.{flagsAt}
 use Rattle.audit_model.specs.Scan.{stands, taken, flagOf, ends, linesFrom, linesIn, scanPage}
 use Rattle.audit_model.proofs.Scan.Numbers.{part-number, flags-number, zeros-pass}
@@ -46,20 +45,6 @@ module _ (t : List ℕ) (r : ℕ → List ℕ) (h : ℕ → ℕ) (p : ℕ) (fits
   formed : (x : ℕ) → 0 < length (r x) → Formed x (r x)
   formed x full = standing x full .head
 
-  -- what stands where line k's record would stand is of no line before it
-  line-after : (n k j : ℕ) → k + n ≡ 64 → 1 ≤ j → j < k → lineAt (page r h p) (startOf r p k) ≢ j
-  unfolding lineAt
-  line-after zero k j e lo lt at =
-      let last : k ≡ 64 = omega arith in
-      let z : lineAt (page r h p) (startOf r p k) ≡ 0 = rw last (free-byte r h p 4) in
-      omega arith
-  line-after (suc n) k j e lo lt at = byCases (ltb 0 (length (r (codeOf p k))))
-      (λ some. omega (arith, line-there r h p fits formed k (omega arith) (omega arith) (ltb-true _ _ some)))
-      (λ none.
-      let z : length (r (codeOf p k)) ≡ 0 = omega (arith, ltb-false 0 (length (r (codeOf p k))) none) in
-      let s : startOf r p (suc k) ≡ startOf r p k = omega (arith, start-next r p k (omega arith)) in
-      line-after n (suc k) j (omega arith) lo (omega arith) (rw s at))
-
   -- line k takes its record's bytes
   takes : (k : ℕ) → 1 ≤ k → k < 64 → taken t (page r h p) p (startOf r p k) k ≡ length (r (codeOf p k))
   unfolding twoAt
@@ -79,9 +64,7 @@ module _ (t : List ℕ) (r : ℕ → List ℕ) (h : ℕ → ℕ) (p : ℕ) (fits
       taken-some t (page r h p) p (startOf r p k) k (line-there r h p fits formed k lo (omega arith) full) good ∙ size)
       (λ none.
       let z : length (r (codeOf p k)) ≡ 0 = omega (arith, ltb-false 0 (length (r (codeOf p k))) none) in
-      let s : startOf r p (suc k) ≡ startOf r p k = omega (arith, start-next r p k lo) in
-      let other : lineAt (page r h p) (startOf r p k) ≢ k = rw s at (line-after (64 - suc k) (suc k) k (omega arith) lo (omega arith)) in
-      taken-none t (page r h p) p (startOf r p k) k other ∙ sym z)
+      taken-none t (page r h p) p (startOf r p k) k (line-other r h p fits formed k lo (omega arith) z) ∙ sym z)
 
   bitsTo : ℕ → ℕ
   bitsTo n = 1 + sumOf (λ j. flagOf (length (r (codeOf p j))) (2 ^ j)) (run 1 n)

@@ -10,11 +10,11 @@ use lib.ListN.{length}
 use borrow.Author.Tests.{eqb-true, eqb-false, eq-eqb, ne-eqb, not-true}
 use Rattle.ledger.specs.Numbers.{elem, update}
 use Rattle.ledger.specs.Walks.{Marking, spent, failed, marked, markWalk, unmarked, marking}
-use Rattle.ledger.proofs.Lists.Tests.{byCases, clash, not-true-false, update-same, update-other}
+use Rattle.ledger.proofs.Lists.Tests.{byCases, clash, update-same, update-other}
 use Rattle.ledger.proofs.Lists.Members.{elem-here, elem-tail}
 use Rattle.ledger.proofs.Lists.Sieves.{length-keep, keep-fewer}
 use Rattle.ledger.proofs.Lists.Pairs.{once-head}
-use Rattle.ledger.proofs.Audit.Walks.{Home, home-once, home-one, homes-apart}
+use Rattle.ledger.proofs.Audit.Walks.{Home, home-once, home-one}
 
 pub marked-spent : {g : ℕ → Bool} → marked g ≡ spent → ⊥
 marked-spent e = let z : _≡_ {A = ℕ} 0 1 = cc in omega arith
@@ -44,11 +44,6 @@ marking-fewer cs g x f e =
     (λ t. clash (update g x true y) (rw (eqb-true y x t) (update-same g x true)) (not-true _ q))
     (λ o. rw (← update-other g x true y (eqb-false y x o)) q))
     (rw (update-same g x true)) (rw f) e
-
--- each mark stands on the walk of another master, which came home
-abbrev pub Earlier : (ℕ → ℕ) → (ℕ → Bool) → ℕ → (ℕ → Bool) → Type 0
-Earlier nx det m g =
-    (x : ℕ) → g x ≡ true → (n : ℕ) × (ys : List ℕ) × (n ≢ m) × (det n ≡ false) × Home nx det n (nx n) ys × (elem x ys ≡ true)
 
 module _ (nx : ℕ → ℕ) (det : ℕ → Bool) where
   -- fuel for each code without mark is enough
@@ -122,18 +117,6 @@ module _ (nx : ℕ → ℕ) (det : ℕ → Bool) where
       go (marked h) e =
           let r = marked-home fuel m x g h e in
           (h, e, rw (home-one nx det m m x xs (r .0) off off way (r .1) .1) (r .2))
-
-  -- the marks of one walk fail another only where that does not come home
-  pub earlier-clear : (m : ℕ) (g : ℕ → Bool) → det m ≡ false
-      → Earlier nx det m g
-      → (xs : List ℕ) → Home nx det m (nx m) xs → (y : ℕ) → elem y xs ≡ true → g y ≡ false
-  earlier-clear m g off earlier xs way y e =
-      not-true-false (g y) (λ t. let r = earlier y t in r .2 (homes-apart nx det (r .0) m y (r .1) xs (r .3) off (r .4) way (r .5) e))
-
-  pub marks-fail : (fuel m : ℕ) (g : ℕ → Bool) → det m ≡ false
-      → Earlier nx det m g
-      → markWalk fuel nx det m (nx m) g ≡ failed → (xs : List ℕ) → Home nx det m (nx m) xs → ⊥
-  marks-fail fuel m g off earlier e xs way = home-never-fails fuel m (nx m) g xs off way (earlier-clear m g off earlier xs way) e
 
 -- the steps of a walk with marks: what a loop of the code keeps, with unmarked for its measure
 module _ (cs : List ℕ) (nx : ℕ → ℕ) (det : ℕ → Bool) (m x : ℕ) (g : ℕ → Bool) where

@@ -13,7 +13,7 @@ use Rattle.ledger.specs.Numbers.{elem, once, headOr, follower}
 use Rattle.ledger.specs.Pages.{round}
 use Rattle.ledger.specs.Walks.{Agrees, Rings, walk, walked}
 use Rattle.ledger.proofs.Lists.Tests.{byCases, clash, not-true-false, eqb-same}
-use Rattle.ledger.proofs.Lists.Members.{elem-nil, elem-here, elem-tail, elem-cases}
+use Rattle.ledger.proofs.Lists.Members.{others, elem-nil, elem-here, elem-tail, elem-cases}
 use Rattle.ledger.proofs.Lists.Pairs.{once-nil, once-cons, once-head, once-tail, pigeons}
 
 -- from x along details xs to m
@@ -130,31 +130,7 @@ pub agrees-one : (nx : ℕ → ℕ) (m : ℕ) (xs ys : List ℕ) → once xs ≡
 agrees-one nx m xs ys o q f g a b =
     let det : ℕ → Bool = λ y. not (eqb y m) in
     let off : det m ≡ false = rw (eqb-same m) in
-    let own : (zs : List ℕ) → elem m zs ≡ false → (y : ℕ) → elem y zs ≡ true → det y ≡ true =
-    λ zs h y e. rw (ne-eqb y m (λ i. clash (elem m zs) (rw i at e) h)) in
-    home-one nx det m m (nx m) xs ys off off (agrees-home nx det m xs off o (own xs f) a) (agrees-home nx det m ys off q (own ys g) b) .1
-
--- what a walk that comes home shows
-pub record Circuit (nx : ℕ → ℕ) (det : ℕ → Bool) (m : ℕ) (xs : List ℕ) : Type 0 where
-  pub details : (x : ℕ) → elem x xs ≡ true → det x ≡ true
-  pub ones : once xs ≡ true
-  pub agrees : Agrees nx m xs
-
-pub walk-circuit : (fuel : ℕ) (nx : ℕ → ℕ) (det : ℕ → Bool) (m : ℕ) (xs : List ℕ) → det m ≡ false → walk fuel nx det m (nx m) ≡ some xs
-    → Circuit nx det m xs
-walk-circuit fuel nx det m xs off w =
-    let h = walk-home nx det fuel m (nx m) xs w in
-    record {
-      details = home-detail nx det m (nx m) xs h;
-      ones = home-once nx det m (nx m) xs off h;
-      agrees = home-agrees nx det m xs off h;
-    }
-
-pub walks-apart : (fuel : ℕ) (nx : ℕ → ℕ) (det : ℕ → Bool) (m n : ℕ) (xs ys : List ℕ) → det m ≡ false → det n ≡ false → m ≢ n
-    → walk fuel nx det m (nx m) ≡ some xs → walk fuel nx det n (nx n) ≡ some ys → (x : ℕ) → elem x xs ≡ true → elem x ys ≡ false
-walks-apart fuel nx det m n xs ys p q ne v w x e =
-    not-true-false (elem x ys) (λ t.
-    ne (homes-apart nx det m n x xs ys p q (walk-home nx det fuel m (nx m) xs v) (walk-home nx det fuel n (nx n) ys w) e t))
+    home-one nx det m m (nx m) xs ys off off (agrees-home nx det m xs off o (others m xs f) a) (agrees-home nx det m ys off q (others m ys g) b) .1
 
 module _ (nx : ℕ → ℕ) (det mas : ℕ → Bool) (apart : (x : ℕ) → mas x ≡ true → det x ≡ false) where
   pub walked-is : (fuel m : ℕ) (xs : List ℕ) → mas m ≡ true → walk fuel nx det m (nx m) ≡ some xs → walked fuel nx det mas m ≡ xs

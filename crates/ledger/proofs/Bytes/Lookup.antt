@@ -7,12 +7,12 @@ use mathlib.Core.List.{List, [], _∷_}
 use native.Mathlib.Omega.{arith}
 use native.Mathlib.Nat.{add-assoc, add-zero}
 use lib.ListN.{length}
-use lib.Dec.{eqb, leb}
-use borrow.Author.Tests.{eq-eqb, ne-eqb, le-leb, lt-leb, leb-true, leb-false}
+use lib.Dec.{eqb}
+use borrow.Author.Tests.{eq-eqb, ne-eqb, eqb-true, eqb-false, le-leb, lt-leb}
 use Rattle.ledger.specs.Pages.{codeOf, pageOf, lineOf, page, used}
 use Rattle.ledger.specs.Bytes.{startOf, sizeAt, twoAt, lineAt, Formed, lookup}
-use Rattle.ledger.proofs.Lists.Tests.{byCases, same-or-not}
-use Rattle.ledger.proofs.Bytes.Places.{start-first, start-next, record-part, record-byte, record-inside, free-byte}
+use Rattle.ledger.proofs.Lists.Tests.{byCases}
+use Rattle.ledger.proofs.Bytes.Places.{start-least, start-first, start-next, record-part, record-byte, record-inside, free-byte}
 
 module _ (end : ℕ) (f : List ℕ) (at line : ℕ) where
   pub lookup-stop : (fuel : ℕ) → sizeAt f at ≡ 0 → lookup end fuel f at line ≡ 0
@@ -38,24 +38,6 @@ module _ (end : ℕ) (f : List ℕ) (at line : ℕ) where
   unfolding lookup
   lookup-past fuel lt size ne = rw (lt-leb end at lt, ne-eqb (sizeAt f at) 0 (λ z. omega arith), ne-eqb (lineAt f at) line ne)
 
--- more fuel than bytes ahead changes nothing
-pub lookup-enough : (end : ℕ) (f : List ℕ) (line fuel fuel′ at : ℕ) → end ≤ at + fuel → end ≤ at + fuel′
-    → lookup end fuel f at line ≡ lookup end fuel′ f at line
-lookup-enough end f line zero fuel′ at e e′ = lookup-limit end f at line 0 (omega arith) ∙ sym (lookup-limit end f at line fuel′ (omega arith))
-lookup-enough end f line (suc fuel) zero at e e′ = lookup-limit end f at line (suc fuel) (omega arith) ∙ sym (lookup-limit end f at line 0 (omega arith))
-lookup-enough end f line (suc fuel) (suc fuel′) at e e′ =
-    byCases (leb end at)
-    (λ le. lookup-limit end f at line (suc fuel) (leb-true _ _ le) ∙ sym (lookup-limit end f at line (suc fuel′) (leb-true _ _ le)))
-    (λ gt.
-    let lt : at < end = leb-false _ _ gt in
-    same-or-not (sizeAt f at) 0
-    (λ z. lookup-stop end f at line (suc fuel) z ∙ sym (lookup-stop end f at line (suc fuel′) z))
-    (λ nz. same-or-not (lineAt f at) line
-    (λ o. lookup-here end f at line fuel lt (omega arith) o ∙ sym (lookup-here end f at line fuel′ lt (omega arith) o))
-    (λ ne. lookup-past end f at line fuel lt (omega arith) ne
-    ∙ lookup-enough end f line fuel fuel′ (at + sizeAt f at) (omega arith) (omega arith)
-    ∙ sym (lookup-past end f at line fuel′ lt (omega arith) ne))))
-
 -- A page of formed records.
 module _ (r : ℕ → List ℕ) (h : ℕ → ℕ) (p : ℕ) (fits : used r p ≤ 496)
     (formed : (x : ℕ) → 0 < length (r x) → Formed x (r x)) where
@@ -80,6 +62,25 @@ module _ (r : ℕ → List ℕ) (h : ℕ → ℕ) (p : ℕ) (fits : used r p ≤
   pub size-last : sizeAt (page r h p) (startOf r p 64) ≡ 0
   unfolding sizeAt twoAt
   size-last = rw (add-assoc, free-byte r h p 2, free-byte r h p 3)
+
+  -- what stands where line k's record would stand is of no line before it
+  line-after : (n k j : ℕ) → k + n ≡ 64 → 1 ≤ j → j < k → lineAt (page r h p) (startOf r p k) ≢ j
+  unfolding lineAt
+  line-after zero k j e lo lt at =
+      let last : k ≡ 64 = omega arith in
+      let z : lineAt (page r h p) (startOf r p k) ≡ 0 = rw last (free-byte r h p 4) in
+      omega arith
+  line-after (suc n) k j e lo lt at = byCases (eqb (length (r (codeOf p k))) 0)
+      (λ none.
+      let z : length (r (codeOf p k)) ≡ 0 = eqb-true _ _ none in
+      let s : startOf r p (suc k) ≡ startOf r p k = omega (arith, start-next r p k (omega arith)) in
+      line-after n (suc k) j (omega arith) lo (omega arith) (rw s at))
+      (λ some. omega (arith, line-there k (omega arith) (omega arith) (omega (arith, eqb-false (length (r (codeOf p k))) 0 some))))
+
+  pub line-other : (k : ℕ) → 1 ≤ k → k ≤ 63 → length (r (codeOf p k)) ≡ 0 → lineAt (page r h p) (startOf r p k) ≢ k
+  line-other k lo hi z =
+      let s : startOf r p (suc k) ≡ startOf r p k = omega (arith, start-next r p k lo) in
+      rw s at (line-after (64 - suc k) (suc k) k (omega arith) lo (omega arith))
 
   module _ (end : ℕ) (room : 508 ≤ end) (k : ℕ) where
     -- past line j, whose record is not the one looked for
@@ -127,10 +128,6 @@ module _ (r : ℕ → List ℕ) (h : ℕ → ℕ) (p : ℕ) (fits : used r p ≤
 
     pub lookup-none : (fuel : ℕ) → r (codeOf p k) ≡ [] → lookup end fuel (page r h p) 16 k ≡ 0
     lookup-none fuel no-record = rw (start-first r p) at (none-from 63 1 fuel refl (omega arith) no-record)
-
-start-least : (r : ℕ → List ℕ) (p k : ℕ) → 16 ≤ startOf r p k
-unfolding startOf
-start-least r p k = omega arith
 
 -- A page tells the bytes of its records.
 module _ (r r′ : ℕ → List ℕ) (h h′ : ℕ → ℕ) (p : ℕ) (fits : used r p ≤ 496) (fits′ : used r′ p ≤ 496)

@@ -58,6 +58,10 @@ module _ (r : ℕ → List ℕ) (p : ℕ) where
   unfolding startOf
   start-next k low = rw (before-next k low, length-append) (omega arith)
 
+  pub start-least : (k : ℕ) → 16 ≤ startOf r p k
+  unfolding startOf
+  start-least k = omega arith
+
   pub start-first : startOf r p 1 ≡ 16
   unfolding startOf before concatOf run
   start-first = refl

@@ -39,6 +39,13 @@ module _ (r r′ : ℕ → List ℕ) (h h′ : ℕ → ℕ) (p : ℕ) where
       let lengths : (k : ℕ) → 1 ≤ k → k < 64 → length (r′ (codeOf p k)) ≡ length (r (codeOf p k)) = λ k low high. ap length (same k low high) in
       rw (header-same head lengths, used-same r r′ p lengths, concatOf-same (λ k. r (codeOf p k)) (λ k. r′ (codeOf p k)) 1 63 same)
 
+-- a layout is told by its records and its headers' links
+pub laid-same : (n : ℕ) (r r′ : ℕ → List ℕ) (h h′ : ℕ → ℕ) → ((x : ℕ) → r x ≡ r′ x) → ((p : ℕ) → 1 ≤ p → p ≤ n → h p ≡ h′ p)
+    → laid n r h ≡ laid n r′ h′
+unfolding laid
+laid-same n r r′ h h′ bytes heads =
+    concatOf-same (page r′ h′) (page r h) 1 n (λ p lo hi. page-same r′ r h′ h p (heads p lo (omega arith)) (λ k low high. bytes (codeOf p k)))
+
 -- The bytes r and r′ differ at the code of page p and line k alone.
 module _ (r r′ : ℕ → List ℕ) (p k : ℕ) (low : 1 ≤ k) (high : k ≤ 63)
     (same : (y : ℕ) → y ≢ codeOf p k → r′ y ≡ r y) where
@@ -52,10 +59,6 @@ module _ (r r′ : ℕ → List ℕ) (p k : ℕ) (low : 1 ≤ k) (high : k ≤ 6
   pub after-same : after r′ p k ≡ after r p k
   unfolding after
   after-same = concatOf-same (λ j. r (codeOf p j)) _ (suc k) (64 - suc k) (λ j lo hi. same (codeOf p j) (λ e. omega arith))
-
-  pub start-same : startOf r′ p k ≡ startOf r p k
-  unfolding startOf
-  start-same = rw before-same
 
 module _ (r r′ : ℕ → List ℕ) (h : ℕ → ℕ) (p k : ℕ) (low : 1 ≤ k) (high : k ≤ 63)
     (same : (y : ℕ) → y ≢ codeOf p k → r′ y ≡ r y) where

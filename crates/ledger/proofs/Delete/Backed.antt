@@ -21,10 +21,9 @@ use Rattle.ledger.proofs.Lists.Tests.{byCases, same-or-not, clash, neit
 use Rattle.ledger.proofs.Lists.Members.{elem-nil, elem-here, elem-tail, elem-append, elem-put, elem-cases, split-at-member}
 use Rattle.ledger.proofs.Lists.Pairs.{once-left}
 use Rattle.ledger.proofs.Lists.Parts.{getD-byIndex}
-use Rattle.ledger.proofs.Ledger.Entries.{points-there}
 use Rattle.ledger.proofs.Ledger.Rings.{chained, master-self, master-in, held}
 use Rattle.ledger.proofs.Ledger.Bounds.{present-some}
-use Rattle.ledger.proofs.Delete.Doomed.{going, goes-there, goes-self}
+use Rattle.ledger.proofs.Delete.Doomed.{going, goes-there}
 use Rattle.ledger.proofs.Delete.Deleted.{stays, deleted-at, deleted-formed}
 
 -- z is the nearest that stays before the end of m ∷ ys: those between went
@@ -207,7 +206,3 @@ module _ (t : List ℕ) (l : Ledger) (cur : Currency) where
   delete-formed a w f b l′ c e =
       let (n, p, q, r) = delete-parts b l′ c e in
       (rw q (deleted-formed t l (cur .run) a w), rw (q, r) (deleted-in-force a w f), ap (λ (b : Answer). b .count) p)
-
-  -- the run's record is among those that go
-  pub delete-goes : Accepted t → WellFormed t l → InForce t l cur → cur .run ≢ 0 → goes t l (cur .run) (cur .run) ≡ true
-  delete-goes a w f n = goes-self t l (cur .run) a w (points-there l (cur .run) (f .run-there) n)

@@ -54,9 +54,6 @@ module _ (t : List ℕ) (l : Ledger) (x : ℕ) where
       (λ g. absurd (false≢true (rw (deleted-gone y g) at h)))
       (λ g. (g, rw (deleted-at y g) at h))
 
-  pub survives : (y : ℕ) → goes t l x y ≡ false → present l y ≡ true → present (deleted t l x) y ≡ true
-  survives y g h = rw (deleted-at y g) h
-
   pub calc-kept : (p y : ℕ) → elem y (deleted t l x .calc p) ≡ true → (elem y (l .calc p) ≡ true) × (goes t l x y ≡ false)
   calc-kept p y e =
       let k = keep-elem (stays t l x) y (l .calc p) (rw (deleted-calc p) at e) in

@@ -13,9 +13,8 @@ use Rattle.ledger.specs.Pages.{Ledger, kindAt, present, codes, masterOf,
 use Rattle.ledger.specs.Calls.{doomed, goes}
 use Rattle.ledger.proofs.Lists.Tests.{both, clash, not-true-false, eqb-same, either}
 use Rattle.ledger.proofs.Lists.Members.{elem-run, run-elem, some-any, any-some}
-use Rattle.ledger.proofs.Lists.Sieves.{elem-keep, keep-elem}
 use Rattle.ledger.proofs.Lists.Pairs.{once-keep, once-run}
-use Rattle.ledger.proofs.Ledger.Rows.{code-listed, rows-rise, row-inside}
+use Rattle.ledger.proofs.Ledger.Rows.{rows-rise, row-inside}
 use Rattle.ledger.proofs.Ledger.Rings.{chained, master-in, held}
 
 -- the codes that go
@@ -146,9 +145,3 @@ module _ (t : List ℕ) (l : Ledger) (x : ℕ) (a : Accepted t) (w : WellFormed 
   pub going-once : once (going t l x) ≡ true
   unfolding codes
   going-once = once-keep (goes t l x) _ (once-run 64 _)
-
-  pub going-goes : (y : ℕ) → elem y (going t l x) ≡ true → goes t l x y ≡ true
-  going-goes y e = keep-elem (goes t l x) y (codes t) e .1
-
-  pub goes-going : (y : ℕ) → goes t l x y ≡ true → elem y (going t l x) ≡ true
-  goes-going y g = elem-keep (goes t l x) y (codes t) (code-listed t l y a (w .placed y (goes-there y g))) g

@@ -52,10 +52,10 @@ module _ (t : List ℕ) (r : ℕ → List ℕ) (a : Accepted t) (g : Paged t r) 
   pub apart : (x : ℕ) → masterRead t r j x ≡ true → detailRead t r j x ≡ false
   apart x m = not-true-false _ (λ d. clash _ m (detail-below x d))
 
-  details-listed : (x : ℕ) → detailRead t r j x ≡ true → elem x (codes t) ≡ true
+  pub details-listed : (x : ℕ) → detailRead t r j x ≡ true → elem x (codes t) ≡ true
   details-listed x d = standing-listed t r a g x (detail-some x d)
 
-  masters-listed : (x : ℕ) → masterRead t r j x ≡ true → elem x (codes t) ≡ true
+  pub masters-listed : (x : ℕ) → masterRead t r j x ≡ true → elem x (codes t) ≡ true
   masters-listed x m = standing-listed t r a g x (master-some x m)
 
   pub chain-audit : (audit (suc (64 * pages t)) (nextRead t r j) (detailRead t r j) (masterRead t r j) (codes t) ≡ true) ↔ Ringed t r j

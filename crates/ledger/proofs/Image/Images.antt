@@ -8,8 +8,8 @@ use lib.ListN.{length}
 use lib.Dec.{ltb, leb}
 use borrow.Author.Tests.{ltb-true, ltb-false, leb-true}
 use Rattle.ledger.specs.Table.{pages, Accepted}
-use Rattle.ledger.specs.Pages.{pageOf, lineOf, Ledger, present, recordBytes, headNext, page, laid, Sound}
-use Rattle.ledger.specs.Image.{calcNextRead, ledgerOf, Paged}
+use Rattle.ledger.specs.Pages.{pageOf, lineOf, Ledger, present, recordBytes, headNext, page, laid, layout, Sound}
+use Rattle.ledger.specs.Image.{calcNextRead, ledgerOf, Paged, Imaged}
 use Rattle.ledger.specs.Audit.{Calced, Audited}
 use Rattle.ledger.proofs.Lists.Tests.{byCases, both}
 use Rattle.ledger.proofs.Lists.Members.{no-length}
@@ -20,9 +20,16 @@ use Rattle.ledger.proofs.Ledger.Rows.{placed-within}
 use Rattle.ledger.proofs.Ledger.Bounds.{head-next-small}
 use Rattle.ledger.proofs.Ledger.Records.{absent-bytes, bytes-formed}
 use Rattle.ledger.proofs.Ledger.Fields.{file-page}
+use Rattle.ledger.proofs.Image.Laid.{laid-paged}
 use Rattle.ledger.proofs.Image.Unique.{sound-unique}
 use Rattle.ledger.proofs.Image.Paged.{some-there, image-placed, image-calc, image-calc-out}
 use Rattle.ledger.proofs.Image.ReadBack.{read-back, laid-audited}
+
+-- a sound file is the image of its ledger's bytes
+pub sound-imaged : (t f : List ℕ) (l : Ledger) → Accepted t → Sound t f l → Imaged t f (recordBytes t l) (headNext t l)
+unfolding layout
+sound-imaged t f l a s =
+    record { bytes = s .bytes; paged = laid-paged t l a (s .formed); heads = λ p lo hi. head-next-small t l a (s .formed) p hi }
 
 -- heads that agree on the file's pages
 module _ (t : List ℕ) (r : ℕ → List ℕ) (h h′ : ℕ → ℕ) where

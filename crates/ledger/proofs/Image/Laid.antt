@@ -10,7 +10,7 @@ use lib.Dec.{eqb}
 use borrow.Author.Tests.{lt-ltb}
 use Rattle.ledger.specs.Numbers.{run}
 use Rattle.ledger.specs.Table.{chains, calculated, inChain, linkedPrior, Accepted}
-use Rattle.ledger.specs.Pages.{Ledger, bytesOf, kindAt, bytesAt, present, homeOf, chainLinks, links, recordBytes, WellFormed, bytesWith, calcNext, nextOf, priorOf}
+use Rattle.ledger.specs.Pages.{Ledger, bytesOf, kindAt, bytesAt, present, homeOf, chainLinks, links, recordBytes, Placed, WellFormed, bytesWith, calcNext, nextOf, priorOf}
 use Rattle.ledger.specs.Image.{kindRead, dataRead, entryRead, homeRead, Paged}
 use Rattle.ledger.specs.Bytes.{twoAt}
 use Rattle.ledger.proofs.Lists.Tests.{byCases}
@@ -20,6 +20,7 @@ use Rattle.ledger.proofs.Ledger.Records.{own-length, absent-bytes, reco
 use Rattle.ledger.proofs.Ledger.Fields.{own-fields}
 use Rattle.ledger.proofs.Image.Paged.{entry-kind, entry-bytes, entry-there}
 
+-- with any links, its bytes are bytes
 module _ (t : List ℕ) (l : Ledger) (nx pr : ℕ → ℕ → ℕ) (cn : ℕ → ℕ) (x : ℕ) where
   chain-links-bytes : (j : ℕ) → Bytes (chainLinks t l nx pr x j)
   unfolding chainLinks
@@ -32,12 +33,16 @@ module _ (t : List ℕ) (l : Ledger) (nx pr : ℕ → ℕ → ℕ) (cn : ℕ →
       append-bytes (cond-bytes (calculated t (kindAt l x)) (digits-bytes 3 _) nil-bytes)
       (concat-bytes (chainLinks t l nx pr x) (run 0 (chains t)) chain-links-bytes)
 
+  pub with-bytes : present l x ≡ true → Placed t l x → Bytes (bytesWith t l nx pr cn x)
+  unfolding bytesWith
+  with-bytes e p =
+      rw e (append-bytes (append-bytes (append-bytes (append-bytes (digits-bytes 2 _) (digits-bytes 2 _)) (digits-bytes 1 _))
+      (record { small = p .bytes })) links-bytes)
+
 module _ (t : List ℕ) (l : Ledger) (a : Accepted t) (w : WellFormed t l) where
   record-bytes : (x : ℕ) → present l x ≡ true → Bytes (recordBytes t l x)
-  unfolding recordBytes bytesWith
-  record-bytes x e =
-      rw e (append-bytes (append-bytes (append-bytes (append-bytes (digits-bytes 2 _) (digits-bytes 2 _)) (digits-bytes 1 _))
-      (record { small = w .placed x e .bytes })) (links-bytes t l (nextOf t l) (priorOf t l) (calcNext t l) x))
+  unfolding recordBytes
+  record-bytes x e = with-bytes t l (nextOf t l) (priorOf t l) (calcNext t l) x e (w .placed x e)
 
   pub laid-kind : (x : ℕ) → kindRead (recordBytes t l x) ≡ kindAt l x
   laid-kind x = byCases (present l x)

@@ -14,7 +14,7 @@ use Rattle.ledger.specs.Pages.{kindOf, bytesOf, isSome, kindAt, bytesAt,
 use Rattle.ledger.specs.Bytes.{twoAt}
 use Rattle.ledger.specs.Image.{kindRead, dataRead, entryRead, detailRead, masterRead, ringRead, homeRead, calcRead, ledgerOf, Paged}
 use Rattle.ledger.proofs.Lists.Parts.{part-bytes}
-use Rattle.ledger.proofs.Ledger.Rows.{size-least, code-listed}
+use Rattle.ledger.proofs.Ledger.Rows.{home-within, size-least, code-listed}
 
 -- the entry of bytes
 module _ (t : List ℕ) where
@@ -94,6 +94,11 @@ module _ (t : List ℕ) (r : ℕ → List ℕ) (h : ℕ → ℕ) where
         full = rw (image-bytes x, image-kind x) (length-take-le _ (drop 5 (r x)) (rw length-drop (omega arith)));
         bytes = λ i. rw (image-bytes x) (part-bytes (r x) 5 (dataLen t (row t (kindRead (r x)))) (s .bytes) i);
       }
+
+-- its home is a page of the file
+pub home-bounds : (t : List ℕ) (r : ℕ → List ℕ) → Accepted t → Paged t r → (x : ℕ) → 0 < length (r x) → (1 ≤ homeRead t (r x)) × (homeRead t (r x) ≤ pages t)
+unfolding homeRead
+home-bounds t r a g x full = home-within t (kindRead (r x)) _ a (g .standing x full .typed)
 
 -- a record's code is one of the file's
 pub standing-listed : (t : List ℕ) (r : ℕ → List ℕ) → Accepted t → Paged t r → (x : ℕ) → 0 < length (r x) → elem x (codes t) ≡ true

@@ -13,7 +13,7 @@ use Rattle.ledger.specs.Numbers.{elem}
 use Rattle.ledger.specs.Table.{pages, chains, Accepted}
 use Rattle.ledger.specs.Pages.{Ledger, laid, recordBytes, headNext, layout, WellFormed, Sound}
 use Rattle.ledger.specs.Bytes.{Fields}
-use Rattle.ledger.specs.Image.{kindRead, nextRead, priorRead, homeRead, ledgerOf}
+use Rattle.ledger.specs.Image.{nextRead, priorRead, ledgerOf}
 use Rattle.ledger.specs.Audit.{Audited}
 use Rattle.ledger.proofs.Lists.Tests.{byCases, clash, both}
 use Rattle.ledger.proofs.Lists.Members.{elem-nil, no-members, no-length}
@@ -21,26 +21,21 @@ use Rattle.ledger.proofs.Lists.Pairs.{once-nil}
 use Rattle.ledger.proofs.Lists.Runs.{concatOf-same}
 use Rattle.ledger.proofs.Bytes.Writes.{page-same}
 use Rattle.ledger.proofs.Ledger.Entries.{same-ledger}
-use Rattle.ledger.proofs.Ledger.Rows.{home-within}
 use Rattle.ledger.proofs.Ledger.Calcs.{calc-within}
 use Rattle.ledger.proofs.Ledger.Records.{absent-bytes}
-use Rattle.ledger.proofs.Image.Paged.{image-kind, image-bytes, image-there, image-master, image-detail, image-home, there-some, some-there, image-ring, image-ring-out, image-calc, image-calc-out, image-placed}
+use Rattle.ledger.proofs.Image.Paged.{home-bounds, image-kind, image-bytes, image-there, image-master, image-detail, image-home, there-some, some-there, image-ring, image-ring-out, image-calc, image-calc-out, image-placed}
 use Rattle.ledger.proofs.Image.Laid.{laid-entry, laid-paged}
 use Rattle.ledger.proofs.Image.ChainRings.{detail-some, master-some, image-own, image-one, image-once, next-read, prior-read, ring-back, laid-ringed, laid-priors}
 use Rattle.ledger.proofs.Image.CalcRings.{homed, to-home, image-calc-once, image-calc-own, image-calc-all, calc-next-read, head-read, calc-back, laid-calced}
 use Rattle.ledger.proofs.Image.Retold.{fields-bytes}
 
 module _ (t : List ℕ) (r : ℕ → List ℕ) (h : ℕ → ℕ) (a : Accepted t) (s : Audited t r h) where
-  home-in : (x : ℕ) → 0 < length (r x) → (1 ≤ homeRead t (r x)) × (homeRead t (r x) ≤ pages t)
-  unfolding homeRead
-  home-in x full = home-within t (kindRead (r x)) _ a (s .paged .standing x full .typed)
-
   image-fields : (x : ℕ) → 0 < length (r x) → Fields t (ledgerOf t r h) x (r x) 0
   unfolding nextRead priorRead
   image-fields x full =
       let st = s .paged .standing x full in
       let k = image-kind t r h x in
-      let p = home-in x full in record {
+      let p = home-bounds t r a (s .paged) x full in record {
         kind = sym k;
         size = rw k (st .head .size ∙ st .whole);
         line = st .head .line;
@@ -93,7 +88,7 @@ module _ (t : List ℕ) (r : ℕ → List ℕ) (h : ℕ → ℕ) (a : Accepted t
         (some-there t r h x (o .0), rw (image-kind t r h x) (o .1), image-home t r h x ∙ o .2);
     calc-all = λ x e c.
         let full = there-some t r h x e in
-        let p = home-in x full in
+        let p = home-bounds t r a (s .paged) x full in
         rw (image-home t r h x) (image-calc-all t r h a (s .paged) _ (p .0) (p .1) (s .calced _ (p .0) (p .1)) x (to-home t r x full (rw (image-kind t r h x) at c)));
     ring-once = λ j m. byCases (ltb j (chains t))
         (λ e. let lt = ltb-true _ _ e in image-once t r a (s .paged) j lt h (s .ringed j lt) m)

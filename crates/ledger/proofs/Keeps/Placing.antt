@@ -23,7 +23,7 @@ module _ (t : List ℕ) (n : ℕ) (a : Accepted t) (d : defined t n ≡ true) wh
   range : low t (row t n) ≤ high t (row t n)
   range = type-row t n a d .ranged .1
 
-  tried-in-range : (base p : ℕ) → Within t n base → elem p (tried t n base) ≡ true → Within t n p
+  pub tried-in-range : (base p : ℕ) → Within t n base → elem p (tried t n base) ≡ true → Within t n p
   unfolding tried
   tried-in-range base p b e =
       let (lo, hi) = b in
@@ -44,7 +44,7 @@ module _ (t : List ℕ) (n : ℕ) (a : Accepted t) (d : defined t n ≡ true) wh
             let k : kindAt l (typeCurrent t cur n) ≡ n = q .1 ∙ row-number t n d in
             (rw k at (p .low-page), rw k at (p .high-page))
 
-    base-in-range : (b : List ℕ) → Within t n (basePage t l cur n b)
+    pub base-in-range : (b : List ℕ) → Within t n (basePage t l cur n b)
     unfolding basePage
     base-in-range b =
         let m = pageOf (occurrence t l cur (via t (row t n))) in

@@ -1,7 +1,7 @@
 -- What the bytes of a sound file say: the fields of each record at its place, and the head of each page.
 use Prim.Native.Nat.{ℕ, _+_, _*_, _-_, _≤_, _<_}
 use mathlib.Core.Path.{_≡_, _∙_}
-use mathlib.Core.Bool.{true, false}
+use mathlib.Core.Bool.{true}
 use mathlib.Core.List.{List}
 use native.Mathlib.Omega.{arith}
 use native.Mathlib.Nat.{add-zero}
@@ -19,10 +19,10 @@ use Rattle.ledger.proofs.Lists.Parts.{getD-part, part-inside}
 use Rattle.ledger.proofs.Lists.Digits.{part-two, part-three}
 use Rattle.ledger.proofs.Bytes.Pages.{laid-length, laid-page, head-part}
 use Rattle.ledger.proofs.Bytes.Places.{record-part, record-inside}
-use Rattle.ledger.proofs.Bytes.Lookup.{lookup-found, lookup-none}
+use Rattle.ledger.proofs.Bytes.Lookup.{lookup-found}
 use Rattle.ledger.proofs.Ledger.Rows.{kind-within, size-least, size-small, placed-within}
 use Rattle.ledger.proofs.Ledger.Bounds.{next-small, prior-small, calc-next-small, head-next-small, homeOf-within}
-use Rattle.ledger.proofs.Ledger.Records.{absent-bytes, record-formed, bytes-formed, record-length, kind-part, size-part, line-byte, data-part, calc-part, next-part, prior-part}
+use Rattle.ledger.proofs.Ledger.Records.{record-formed, bytes-formed, record-length, kind-part, size-part, line-byte, data-part, calc-part, next-part, prior-part}
 
 -- the links stand inside the record
 module _ (t : List ℕ) (n : ℕ) where
@@ -115,12 +115,6 @@ module _ (t f : List ℕ) (l : Ledger) (a : Accepted t) (s : Sound t f l) where
       rw (file-page (pageOf x) (q .0) (q .1))
       (lookup-found (recordBytes t l) (headNext t l) (pageOf x) (s .formed .room (pageOf x)) (bytes-formed t l a (s .formed)) 508 (omega arith)
       (lineOf x) 63 (omega arith) (p .on-a-line) (omega arith) some)
-
-  pub file-lookup-none : (p k : ℕ) → 1 ≤ p → p ≤ pages t → present l (codeOf p k) ≡ false → lookup 508 63 (part (512 * (p - 1)) 512 f) 16 k ≡ 0
-  file-lookup-none p k low high e =
-      rw (file-page p low high)
-      (lookup-none (recordBytes t l) (headNext t l) p (s .formed .room p) (bytes-formed t l a (s .formed)) 508 (omega arith) k 63
-      (absent-bytes t l (codeOf p k) e))
 
 -- a record's own bytes say them
 pub own-fields : (t : List ℕ) (l : Ledger) → Accepted t → WellFormed t l → (x : ℕ) → present l x ≡ true → Fields t l x (recordBytes t l x) 0

@@ -7,9 +7,9 @@ use mathlib.Core.List.{List, [], _∷_, _++_, append-assoc}
 use Rattle.ledger.specs.Numbers.{elem, once, headOr, lastOr, without}
 use Rattle.ledger.specs.Table.{isMaster}
 use Rattle.ledger.specs.Pages.{Ledger, kindAt, codes, masterOf, nextOf, priorOf}
-use Rattle.ledger.proofs.Lists.Tests.{same-or-not, not-true-false}
+use Rattle.ledger.proofs.Lists.Tests.{same-or-not, clash, not-true-false}
 use Rattle.ledger.proofs.Lists.Members.{elem-append, elem-put, elem-past, split-at-member}
-use Rattle.ledger.proofs.Lists.Pairs.{once-left, once-right, once-out, without-none, without-once}
+use Rattle.ledger.proofs.Lists.Pairs.{once-left, once-right, once-put, once-out, without-none, without-once}
 use Rattle.ledger.proofs.Lists.Followers.{follower-else, before-else, lastOr-append}
 use Rattle.ledger.proofs.Lists.Searches.{firstOf-same}
 use Rattle.ledger.proofs.Ledger.Rings.{Chained, next-in, prior-in, next-seam, prior-seam}
@@ -29,7 +29,7 @@ module _ (t : List ℕ) (l l′ : Ledger) (j m x : ℕ) (ys zs : List ℕ) (s : 
 
   pub master-else : (y : ℕ) → y ≢ x → masterOf t l′ j y ≡ masterOf t l j y
   unfolding masterOf
-  master-else y n = rw (s .kinds y, firstOf-same _ _ (codes t) (λ k. member-else y k n))
+  master-else y n = rw (s .kinds y, firstOf-same _ _ (codes t) (λ k e. member-else y k n))
 
   pub next-else : (y : ℕ) → y ≢ x → y ≢ lastOr m ys → nextOf t l′ j y ≡ nextOf t l j y
   unfolding nextOf
@@ -51,6 +51,34 @@ module _ (t : List ℕ) (l l′ : Ledger) (j m x : ℕ) (ys zs : List ℕ) (s : 
 
   pub member-new : elem x (l′ .ring j m) ≡ true
   member-new = rw (s .after) (elem-put x ys zs)
+
+  -- putting in a record that was in no ring
+  module _ (c : Chained t l j) (off : (k : ℕ) → elem x (l .ring j k) ≡ false) (listed : elem m (codes t) ≡ true)
+      (top : isMaster t j (kindAt l m) ≡ true) (low : isMaster t j (kindAt l x) ≡ false) where
+    only-there : (k : ℕ) → elem x (l′ .ring j k) ≡ true → k ≡ m
+    only-there k h = same-or-not k m (λ e. e) (λ n. clash _ (rw (s .others k n) at h) (off k))
+
+    was-member : (k y : ℕ) → y ≢ x → elem y (l′ .ring j k) ≡ true → elem y (l .ring j k) ≡ true
+    was-member k y n h = sym (member-else y k n) ∙ h
+
+    pub chained-in : Chained t l′ j
+    chained-in = record {
+      ones = λ k. same-or-not k m
+          (λ e. rw (e, s .after) (once-put x ys zs (rw (s .before) at (off m)) (rw (s .before) at (c .ones m))))
+          (λ n. rw (s .others k n) (c .ones k));
+      listed = λ k y h. same-or-not y x
+          (λ e. rw (only-there k (rw e at h)) listed)
+          (λ n. c .listed k y (was-member k y n h));
+      above = λ k y h. rw (s .kinds k) (same-or-not y x
+          (λ e. rw (only-there k (rw e at h)) top)
+          (λ n. c .above k y (was-member k y n h)));
+      below = λ k y h. rw (s .kinds y) (same-or-not y x
+          (λ e. rw e low)
+          (λ n. c .below k y (was-member k y n h)));
+      one = λ k k′ y h h′. same-or-not y x
+          (λ e. only-there k (rw e at h) ∙ sym (only-there k′ (rw e at h′)))
+          (λ n. c .one k k′ y (was-member k y n h) (was-member k′ y n h′));
+    }
 
   -- with x in its ring
   module _ (c : Chained t l′ j) where

@@ -9,7 +9,7 @@ use lib.Dec.{eqb}
 use borrow.Author.Tests.{eq-eqb}
 use Rattle.ledger.specs.Numbers.{digits, run, sumOf, concatOf}
 use Rattle.ledger.specs.Table.{chains, row, dataLen, calculated, inChain, linkedPrior, Accepted}
-use Rattle.ledger.specs.Pages.{lineOf, linkBytes, calcAt, linkAt, recordSize, Ledger, kindAt, bytesAt, present, nextOf, priorOf, calcNext, chainLinks, links, bytesWith, recordBytes, WellFormed}
+use Rattle.ledger.specs.Pages.{lineOf, linkBytes, calcAt, linkAt, recordSize, Ledger, kindAt, bytesAt, present, nextOf, priorOf, calcNext, chainLinks, links, bytesWith, recordBytes, Placed, WellFormed}
 use Rattle.ledger.specs.Bytes.{Formed}
 use Rattle.ledger.proofs.Lists.Tests.{byCases}
 use Rattle.ledger.proofs.Lists.Runs.{length-concatOf, concatOf-at, sumOf-same}
@@ -41,10 +41,10 @@ module _ (t : List ℕ) (l : Ledger) (nx pr : ℕ → ℕ → ℕ) (cn : ℕ →
   links-length = rw (length-append, calc-link-length, chain-links-sum)
 
   -- the five bytes before the data
-  abbrev head : List ℕ
+  abbrev pub head : List ℕ
   head = digits 2 (kindAt l x) ++ digits 2 (recordSize t (kindAt l x)) ++ digits 1 (lineOf x)
 
-  head-length : length head ≡ 5
+  pub head-length : length head ≡ 5
   unfolding digits
   head-length = refl
 
@@ -52,29 +52,47 @@ module _ (t : List ℕ) (l : Ledger) (nx pr : ℕ → ℕ → ℕ) (cn : ℕ →
   unfolding bytesWith
   absent-with e = rw e
 
-  module _ (there : present l x ≡ true) (full : length (bytesAt l x) ≡ dataLen t (row t (kindAt l x))) where
-    record-is : bytesWith t l nx pr cn x ≡ head ++ bytesAt l x ++ links t l nx pr cn x
-    unfolding bytesWith
-    record-is = rw there
+  pub record-is : present l x ≡ true → bytesWith t l nx pr cn x ≡ head ++ bytesAt l x ++ links t l nx pr cn x
+  unfolding bytesWith
+  record-is there = rw there
 
+  -- the bytes up to chain j's links, and those behind them
+  abbrev pub upTo : ℕ → List ℕ
+  upTo j = head ++ bytesAt l x ++ calcLink ++ concatOf (chainLinks t l nx pr x) (run 0 j)
+
+  abbrev pub beyond : ℕ → List ℕ
+  beyond j = concatOf (chainLinks t l nx pr x) (run (suc j) (chains t - suc j))
+
+  pub record-at : present l x ≡ true → (j : ℕ) → j < chains t → bytesWith t l nx pr cn x ≡ upTo j ++ (chainLinks t l nx pr x j ++ beyond j)
+  unfolding links
+  record-at there j inside =
+      let e : j - 0 ≡ j = omega arith in
+      let f : 0 + chains t - suc j ≡ chains t - suc j = omega arith in
+      rw (record-is there, concatOf-at (chainLinks t l nx pr x) 0 (chains t) j (omega arith) (omega arith), e, f) (simp append-assoc)
+
+  pub up-to-length : length (bytesAt l x) ≡ dataLen t (row t (kindAt l x)) → (j : ℕ) → length (upTo j) ≡ linkAt t (kindAt l x) j
+  unfolding linkAt calcAt
+  up-to-length full j = rw (length-append, length-append, length-append, head-length, full, calc-link-length, chain-links-sum)
+
+  module _ (there : present l x ≡ true) (full : length (bytesAt l x) ≡ dataLen t (row t (kindAt l x))) where
     pub record-length : length (bytesWith t l nx pr cn x) ≡ recordSize t (kindAt l x)
     unfolding recordSize linkAt calcAt
-    record-length = rw (record-is, length-append, length-append, head-length, links-length, full) (omega arith)
+    record-length = rw (record-is there, length-append, length-append, head-length, links-length, full) (omega arith)
 
     pub kind-part : take 2 (bytesWith t l nx pr cn x) ≡ digits 2 (kindAt l x)
     unfolding digits
-    kind-part = rw record-is
+    kind-part = rw (record-is there)
 
     pub size-part : take 2 (drop 2 (bytesWith t l nx pr cn x)) ≡ digits 2 (recordSize t (kindAt l x))
     unfolding digits
-    size-part = rw record-is
+    size-part = rw (record-is there)
 
     pub line-byte : getD (bytesWith t l nx pr cn x) 4 0 ≡ lineOf x
     unfolding digits
-    line-byte = rw record-is (omega arith)
+    line-byte = rw (record-is there) (omega arith)
 
     pub data-part : take (dataLen t (row t (kindAt l x))) (drop 5 (bytesWith t l nx pr cn x)) ≡ bytesAt l x
-    data-part = rw (record-is, append-assoc head) (part-here head (bytesAt l x) (links t l nx pr cn x) 5 _ head-length full)
+    data-part = rw (record-is there, append-assoc head) (part-here head (bytesAt l x) (links t l nx pr cn x) 5 _ head-length full)
 
     front-length : length (head ++ bytesAt l x) ≡ calcAt t (kindAt l x)
     unfolding calcAt
@@ -83,41 +101,25 @@ module _ (t : List ℕ) (l : Ledger) (nx pr : ℕ → ℕ → ℕ) (cn : ℕ →
     pub calc-part : calculated t (kindAt l x) ≡ true
         → take 3 (drop (calcAt t (kindAt l x)) (bytesWith t l nx pr cn x)) ≡ digits 3 (cn x)
     unfolding links
-    calc-part e = rw (record-is, e) (part-here (head ++ bytesAt l x) _ _ _ 3 front-length (length-digits 3 _))
+    calc-part e = rw (record-is there, e) (part-here (head ++ bytesAt l x) _ _ _ 3 front-length (length-digits 3 _))
 
     module _ (j : ℕ) (inside : j < chains t) (linked : inChain t j (kindAt l x) ≡ true) where
-      -- the bytes up to chain j's links
-      abbrev upTo : List ℕ
-      upTo = head ++ bytesAt l x ++ calcLink ++ concatOf (chainLinks t l nx pr x) (run 0 j)
-
-      up-to-length : length upTo ≡ linkAt t (kindAt l x) j
-      unfolding linkAt calcAt
-      up-to-length = rw (length-append, length-append, length-append, head-length, full, calc-link-length, chain-links-sum)
-
-      record-at : bytesWith t l nx pr cn x ≡ upTo ++ (chainLinks t l nx pr x j ++ concatOf (chainLinks t l nx pr x) (run (suc j) (chains t - suc j)))
-      unfolding links
-      record-at =
-          let e : j - 0 ≡ j = omega arith in
-          let f : 0 + chains t - suc j ≡ chains t - suc j = omega arith in
-          rw (record-is, concatOf-at (chainLinks t l nx pr x) 0 (chains t) j (omega arith) (omega arith), e, f) (simp append-assoc)
-
       pub next-part : take 3 (drop (linkAt t (kindAt l x) j) (bytesWith t l nx pr cn x)) ≡ digits 3 (nx j x)
       unfolding chainLinks
-      next-part = rw (record-at, linked, append-assoc (digits 3 (nx j x))) (part-here upTo _ _ _ 3 up-to-length (length-digits 3 _))
+      next-part = rw (record-at there j inside, linked, append-assoc (digits 3 (nx j x))) (part-here (upTo j) _ _ _ 3 (up-to-length full j) (length-digits 3 _))
 
-      past-next-length : length (upTo ++ digits 3 (nx j x)) ≡ linkAt t (kindAt l x) j + 3
-      past-next-length = rw (length-append upTo, up-to-length, length-digits 3)
+      past-next-length : length (upTo j ++ digits 3 (nx j x)) ≡ linkAt t (kindAt l x) j + 3
+      past-next-length = rw (length-append (upTo j), up-to-length full j, length-digits 3)
 
       pub prior-part : linkedPrior t j ≡ 1 → take 3 (drop (linkAt t (kindAt l x) j + 3) (bytesWith t l nx pr cn x)) ≡ digits 3 (pr j x)
       unfolding chainLinks
       prior-part e =
-          rw (record-at, linked, eq-eqb (linkedPrior t j) 1 e, append-assoc (digits 3 (nx j x)), ← append-assoc upTo)
-          (part-here (upTo ++ digits 3 (nx j x)) _ _ _ 3 past-next-length (length-digits 3 _))
+          rw (record-at there j inside, linked, eq-eqb (linkedPrior t j) 1 e, append-assoc (digits 3 (nx j x)), ← append-assoc (upTo j))
+          (part-here (upTo j ++ digits 3 (nx j x)) _ _ _ 3 past-next-length (length-digits 3 _))
 
   -- the head of a present record's bytes
-  pub formed-with : Accepted t → WellFormed t l → present l x ≡ true → Formed x (bytesWith t l nx pr cn x)
-  formed-with a w h =
-      let p = w .placed x h in
+  pub formed-with : Accepted t → Placed t l x → present l x ≡ true → Formed x (bytesWith t l nx pr cn x)
+  formed-with a p h =
       let e = record-length h (p .full) in
       let s = size-small t (kindAt l x) a (p .typed) in record {
         long = omega (arith, size-least t (kindAt l x));
@@ -142,7 +144,7 @@ module _ (t : List ℕ) (l : Ledger) (x : ℕ) where
 
 pub record-formed : (t : List ℕ) (l : Ledger) → Accepted t → WellFormed t l → (x : ℕ) → present l x ≡ true → Formed x (recordBytes t l x)
 unfolding recordBytes
-record-formed t l a w x = formed-with t l (nextOf t l) (priorOf t l) (calcNext t l) x a w
+record-formed t l a w x e = formed-with t l (nextOf t l) (priorOf t l) (calcNext t l) x a (w .placed x e) e
 
 -- the bytes of a code are a record's or none
 pub bytes-formed : (t : List ℕ) (l : Ledger) → Accepted t → WellFormed t l → (x : ℕ) → 0 < length (recordBytes t l x) → Formed x (recordBytes t l x)

@@ -106,7 +106,7 @@ ring-agrees t l a w j m h = next-round t l j (chained t l a w j) m h
 module _ (t : List ℕ) (l l′ : Ledger) (j : ℕ) (same : (m : ℕ) → l′ .ring j m ≡ l .ring j m) (x : ℕ) (kind : isMaster t j (kindAt l′ x) ≡ isMaster t j (kindAt l x)) where
   pub master-same : masterOf t l′ j x ≡ masterOf t l j x
   unfolding masterOf
-  master-same = rw (kind, firstOf-same _ _ (codes t) (λ m. ap (elem x) (same m)))
+  master-same = rw (kind, firstOf-same _ _ (codes t) (λ m e. ap (elem x) (same m)))
 
   pub next-same : nextOf t l′ j x ≡ nextOf t l j x
   unfolding nextOf

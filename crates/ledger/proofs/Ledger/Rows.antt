@@ -7,14 +7,13 @@ use native.Mathlib.Omega.{arith}
 use native.Mathlib.Nat.{mod-lt, add-zero}
 use lib.Dec.{eqb, ltb}
 use borrow.Author.Tests.{eqb-true, ne-eqb, ltb-true, ltb-false, lt-ltb}
-use Rattle.ledger.specs.Numbers.{elem, run, once}
+use Rattle.ledger.specs.Numbers.{elem, run}
 use Rattle.ledger.specs.Table.{pages, chains, types, number, dataLen, low, high, rowFrom, row, defined, calculated, masterType, detailType, linkedPrior, isMaster, isDetail, inChain, Accepted, TypeRow, ChainRow}
 use Rattle.ledger.specs.Pages.{pageOf, hashFrom, home, linkBytes, calcAt, linkAt, recordSize, Ledger, kindAt, codes, Placed}
 use Rattle.ledger.specs.Calls.{asDetail}
 use Rattle.ledger.proofs.Lists.Tests.{byCases, clash, not-true-false}
 use Rattle.ledger.proofs.Lists.Members.{elem-run, run-elem}
 use Rattle.ledger.proofs.Lists.Sieves.{elem-keep-is}
-use Rattle.ledger.proofs.Lists.Pairs.{once-keep, once-run}
 use Rattle.ledger.proofs.Lists.Runs.{sumOf-most}
 
 -- the row of a defined type has its number
@@ -99,11 +98,11 @@ home-in-range t n key a d =
     (omega arith, omega arith)
 
 -- so it is a page of the file
+pub range-within : (t : List ℕ) (n p : ℕ) → Accepted t → defined t n ≡ true → Within t n p → (1 ≤ p) × (p ≤ pages t)
+range-within t n p a d w = let r = type-row t n a d .ranged in (omega (arith, r .0, w .0), omega (arith, r .2, w .1))
+
 pub home-within : (t : List ℕ) (n : ℕ) (key : List ℕ) → Accepted t → defined t n ≡ true → (1 ≤ home t n key) × (home t n key ≤ pages t)
-home-within t n key a d =
-    let r = type-row t n a d .ranged in
-    let h = home-in-range t n key a d in
-    (omega (arith, r .0, h .0), omega (arith, r .2, h .1))
+home-within t n key a d = range-within t n _ a d (home-in-range t n key a d)
 
 -- a record's size is two bytes
 pub links-small : (t : List ℕ) (n j : ℕ) → linkBytes t n j ≤ 6
@@ -126,9 +125,7 @@ size-least t n = omega arith
 
 -- a present record's page is a page of the file, and its code one of its codes
 pub placed-within : (t : List ℕ) (l : Ledger) (x : ℕ) → Accepted t → Placed t l x → (1 ≤ pageOf x) × (pageOf x ≤ pages t)
-placed-within t l x a p =
-    let r = type-row t (kindAt l x) a (p .typed) .ranged in
-    (omega (arith, p .low-page, r .0), omega (arith, p .high-page, r .2))
+placed-within t l x a p = range-within t (kindAt l x) _ a (p .typed) (p .low-page, p .high-page)
 
 pub code-listed : (t : List ℕ) (l : Ledger) (x : ℕ) → Accepted t → Placed t l x → elem x (codes t) ≡ true
 unfolding codes
@@ -146,10 +143,6 @@ unfolding asDetail
 detail-chain t n j = elem-keep-is (λ j. isDetail t j n) j (run 0 (chains t)) ∙ byCases (ltb j (chains t))
     (λ y. let lt = ltb-true j (chains t) y in rw (y, elem-run j 0 (chains t) (omega arith) (omega arith)))
     (λ y. rw (y, not-true-false (elem j (run 0 (chains t))) (λ e. clash _ (lt-ltb j (chains t) (omega (arith, run-elem j 0 (chains t) e .1))) y)))
-
-pub chains-once : (t : List ℕ) (n : ℕ) → once (asDetail t n) ≡ true
-unfolding asDetail
-chains-once t n = once-keep _ (run 0 (chains t)) (once-run 0 (chains t))
 
 pub as-detail : (t : List ℕ) (n j : ℕ) → j < chains t → isDetail t j n ≡ true → elem j (asDetail t n) ≡ true
 as-detail t n j h g = detail-chain t n j ∙ rw (lt-ltb j (chains t) h, g)

@@ -1,7 +1,7 @@
 -- What stands after and before a member once round a ring; the two parts of a ring.
 use Prim.Native.Nat.{ℕ}
 use mathlib.Core.Path.{_≡_, refl, sym, _∙_, ap}
-use mathlib.Core.Logic.{_≢_}
+use mathlib.Core.Logic.{_≢_, inl, inr}
 use mathlib.Core.Bool.{false, true}
 use mathlib.Core.List.{List, [], _∷_, _++_, append-assoc, reverse, reverse-append, reverse-cons, reverse-reverse, append-nil}
 use lib.Dec.{eqb}
@@ -9,7 +9,7 @@ use borrow.Author.Tests.{eqb-false, ne-eqb}
 use Rattle.ledger.specs.Numbers.{elem, headOr, lastOr, follower, once}
 use Rattle.ledger.specs.Pages.{round}
 use Rattle.ledger.proofs.Lists.Tests.{same-or-not, neither, eqb-same, clash}
-use Rattle.ledger.proofs.Lists.Members.{elem-reverse, elem-here, elem-tail, elem-put, Ended, empty, last, ended}
+use Rattle.ledger.proofs.Lists.Members.{elem-nil, elem-cases, elem-there, elem-reverse, elem-here, elem-tail, elem-put, Ended, empty, last, ended}
 use Rattle.ledger.proofs.Lists.Pairs.{once-left, once-right}
 
 pub follower-here : (x : ℕ) (ys : List ℕ) → follower x (x ∷ ys) ≡ headOr 0 ys
@@ -26,6 +26,19 @@ follower-past x [] zs h = refl
 follower-past x (y ∷ ys) zs h =
     let (a, b) = neither (eqb x y) (elem x ys) h in
     follower-there x y (ys ++ zs) (eqb-false x y a) ∙ follower-past x ys zs b
+
+-- what comes after a member of a first part is told by that part and the next one
+pub follower-front : (y z : ℕ) (xs zs : List ℕ) → elem y xs ≡ true → follower y (xs ++ z ∷ zs) ≡ follower y (xs ++ (z ∷ []))
+unfolding headOr
+follower-front y z [] zs e = elem-nil y e
+follower-front y z (x ∷ []) zs e = elim (elem-cases y x [] e) [
+  | inl q ↦ rw (q, follower-here x (z ∷ zs), follower-here x (z ∷ []))
+  | inr q ↦ elem-nil y q
+]
+follower-front y z (x ∷ w ∷ xs) zs e = same-or-not y x
+    (λ q. rw (q, follower-here x (w ∷ (xs ++ z ∷ zs)), follower-here x (w ∷ (xs ++ (z ∷ [])))))
+    (λ n. rw (follower-there y x (w ∷ (xs ++ z ∷ zs)) n, follower-there y x (w ∷ (xs ++ (z ∷ []))) n)
+    (follower-front y z (w ∷ xs) zs (rw (elem-there y x (w ∷ xs) n) at e)))
 
 pub headOr-append : (d m : ℕ) (xs zs : List ℕ) → headOr d (xs ++ m ∷ zs) ≡ headOr m xs
 unfolding headOr
@@ -53,10 +66,15 @@ headOr-reverse d (x ∷ xs) = rw (reverse-cons x xs, headOr-append d x (reverse 
 pub lastOr-reverse : (d : ℕ) (xs : List ℕ) → lastOr d (reverse xs) ≡ headOr d xs
 lastOr-reverse d xs = rw (← headOr-reverse d (reverse xs), reverse-reverse xs)
 
+-- the last is that of the second part
+pub lastOr-past : (d x : ℕ) (xs ys : List ℕ) → lastOr d (xs ++ x ∷ ys) ≡ lastOr x ys
+unfolding lastOr
+lastOr-past d x [] ys = refl
+lastOr-past d x (z ∷ xs) ys = lastOr-past z x xs ys
+
 pub lastOr-append : (d x : ℕ) (xs : List ℕ) → lastOr d (xs ++ (x ∷ [])) ≡ x
 unfolding lastOr
-lastOr-append d x [] = refl
-lastOr-append d x (y ∷ xs) = lastOr-append y x xs
+lastOr-append d x xs = lastOr-past d x xs []
 
 -- the element before
 pub before-in : (m x : ℕ) (ys zs : List ℕ) → x ≢ m → elem x zs ≡ false → follower x (round m (reverse (ys ++ x ∷ zs))) ≡ lastOr m ys

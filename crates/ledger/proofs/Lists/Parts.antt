@@ -5,7 +5,7 @@ use mathlib.Core.List.{List, [], _∷_, _++_, append-assoc}
 use native.Mathlib.Omega.{arith}
 use native.Mathlib.Nat.{add-assoc, add-zero}
 use lib.ListN.{length, take, drop, getD, length-append, length-replicate, replicate, replicate-append-replicate, List·getD-eq-default, length-take, set}
-use lib.Seq.{take-take, drop-drop, take-at, drop-at, getD-drop, getD-take, take-append-add, drop-append-add, take-append-le, drop-append-le, take-add}
+use lib.Seq.{sets, take-take, drop-drop, take-at, drop-at, getD-drop, getD-take, take-append-add, drop-append-add, take-append-le, drop-append-le, take-add}
 use borrow.Author.Tests.{ltb-true, ltb-false}
 use lib.Dec.{ltb}
 use Rattle.ledger.specs.Numbers.{part, byIndex}
@@ -47,6 +47,11 @@ part-inside f b s n o m e h = rw (← e, take-drop-take m o n (drop s f) h, drop
 pub part-join : (b : List ℕ) (s n m : ℕ) (u v : List ℕ) → take n (drop s b) ≡ u → take m (drop (s + n) b) ≡ v → take (n + m) (drop s b) ≡ u ++ v
 part-join b s n m u v e f = take-add n m (drop s b) ∙ rw (drop-drop, e, f)
 
+-- one list written over another, in two parts
+pub sets-append : (f : List ℕ) (i : ℕ) (u v : List ℕ) → sets f i (u ++ v) ≡ sets (sets f i u) (i + length u) v
+sets-append f i [] v = rw (add-zero i)
+sets-append f i (x ∷ u) v = let e : i + suc (length u) ≡ suc i + length u = omega arith in rw e (sets-append (set f i x) (suc i) u v)
+
 -- zeros
 pub getD-zeros : (n i : ℕ) → _≡_ {A = ℕ} (getD (replicate n 0) i 0) 0
 getD-zeros zero i = refl
@@ -78,7 +83,22 @@ index-keeps A g i (x ∷ xs) (suc j) none some =
     let e : i + suc j ≡ suc i + j = omega arith in
     index-keeps A g (suc i) xs j none (rw e at some)
 
+-- entries changed alike
+pub byIndex-same : (g g′ : ℕ → ℕ → ℕ) (i : ℕ) (xs : List ℕ)
+    → ((j : ℕ) → g (i + j) (getD xs j 0) ≡ g′ (i + j) (getD xs j 0)) → byIndex g i xs ≡ byIndex g′ i xs
+unfolding byIndex
+byIndex-same g g′ i [] h = refl
+byIndex-same g g′ i (x ∷ xs) h =
+    let rest = byIndex-same g g′ (suc i) xs (λ j. let e : i + suc j ≡ suc i + j = omega arith in rw e at (h (suc j))) in
+    let e : g i x ≡ g′ i x = rw (add-zero i) at (h 0) in
+    rw (e, rest)
+
 -- each entry by its index
+pub length-byIndex : (g : ℕ → ℕ → ℕ) (i : ℕ) (xs : List ℕ) → length (byIndex g i xs) ≡ length xs
+unfolding byIndex
+length-byIndex g i [] = refl
+length-byIndex g i (x ∷ xs) = ap suc (length-byIndex g (suc i) xs)
+
 pub getD-byIndex : (g : ℕ → ℕ → ℕ) → ((j : ℕ) → g j 0 ≡ 0) → (i k : ℕ) (xs : List ℕ) → getD (byIndex g i xs) k 0 ≡ g (i + k) (getD xs k 0)
 unfolding byIndex
 getD-byIndex g none i k [] = sym (none (i + k))

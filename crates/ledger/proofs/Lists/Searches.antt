@@ -26,10 +26,11 @@ firstOf-only p m [] h t only = elem-nil m h
 firstOf-only p m (x ∷ xs) h t only = byCases (p x) (λ e. rw e (only x e)) λ e.
     rw e (firstOf-only p m xs (sym (elem-there m x xs λ i. clash (p x) (rw i at t) e) ∙ h) t only)
 
-pub firstOf-same : (p q : ℕ → Bool) (xs : List ℕ) → ((n : ℕ) → p n ≡ q n) → firstOf p xs ≡ firstOf q xs
+-- tests that say the same of a list's members find the same
+pub firstOf-same : (p q : ℕ → Bool) (xs : List ℕ) → ((x : ℕ) → elem x xs ≡ true → p x ≡ q x) → firstOf p xs ≡ firstOf q xs
 unfolding firstOf
 firstOf-same p q [] h = refl
-firstOf-same p q (x ∷ xs) h = rw (h x, firstOf-same p q xs h)
+firstOf-same p q (x ∷ xs) h = rw (h x (elem-here x xs), firstOf-same p q xs (λ y e. h y (elem-tail y x xs e)))
 
 pub placeFrom-found : (p : ℕ → Bool) (i : ℕ) (xs : List ℕ) → placeFrom p i xs ≢ 0 → elem (firstOf p xs) xs ≡ true
 unfolding firstOf placeFrom
