@@ -75,13 +75,7 @@ pub record Promised (c : Call) (t f f′ o o′ : List ℕ) (cur : Currency) (r 
   pub reads : c ≡ READ (length o) → Reads t f o o′ cur r
   pub same-output : ((room : ℕ) → c ≡ READ room → ⊥) → o′ ≡ o
 
--- what a call that changes no byte owes once refusals 1 to 4 are behind it, and the one value that meets it
-pub record Performs (call : Ledger → Turn) (t f : List ℕ) (cur : Currency) (r : Outcome) : Type 0 where
-  pub refused : Accepted t → (l : Ledger) → Sound t f l → InForce t l cur → (n : ℕ) → call l ≡ refuse n
-      → (r .answer ≡ refusedWith n) × (r .currency ≡ cur)
-  pub played : Accepted t → (l : Ledger) → Sound t f l → InForce t l cur → (a : Answer) (l′ : Ledger) (c : Currency) → call l ≡ done a l′ c
-      → (r .answer ≡ a) × (r .currency ≡ c)
-
+-- what a call that changes no byte hands back, from what it comes to on the ledger
 unfoldable pub told : Currency → Turn → Outcome
 told cur (refuse n) = refusal n cur
 told cur (done a l c) = outcome a c

@@ -55,7 +55,8 @@ counted t f l a s p low high =
     let two = part-two f (512 * (p - 1) + 3) (free r p) (at ∙ free-part r (headNext t l) p) (omega arith) in
     rw two (omega (arith, s .formed .room p))
 
-demanded : (t f : List ℕ) (cur : Currency) (es : List Event) → Accepted t → Running t f cur es → Demand3 t f es
+-- what a run has come to
+pub demanded : (t f : List ℕ) (cur : Currency) (es : List Event) → Accepted t → Running t f cur es → Demand3 t f es
 unfolding byOrder side
 demanded t f cur es a s =
     let l = s .ledger in

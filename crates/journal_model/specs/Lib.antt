@@ -1,0 +1,5 @@
+pub mod Journal
+pub mod Recovery
+pub mod Order
+pub mod Survival
+pub mod Examples
