@@ -1,15 +1,13 @@
 //! The chain store on memory that the caller lends: a definition table, a file, and the currency beside it.
 //!
-//! Every call answers an [`Answer`]: done, or refused with document 01's number and nothing changed.
+//! Every call answers an [`Answer`]: done, or refused with document 01's number and nothing changed; [`Answer::done`] has it as a
+//! `Result` with the refusal by name.
 
-/// What a call answered: code 0 where it is done, else the number of its refusal, the rest 0.
-#[derive(Clone, Copy, Debug, PartialEq, Eq)]
-pub struct Answer {
-    pub code: u8,
-    pub reference: u32,
-    pub kind: u16,
-    pub count: u16,
-}
+#![deny(unsafe_code)]
+
+mod answer;
+
+pub use answer::{Answer, Done, Refusal};
 
 /// The run's current record, then one of each of 16 types and 16 chains.
 pub type Currency = [u32; 33];
@@ -24,6 +22,7 @@ mod raw {
 }
 
 /// Plays a call's bytes; none where they are no well-made call, and then nothing was changed.
+#[allow(unsafe_code)]
 pub fn call(table: &[u16], file: &mut [u8], currency: &mut Currency, frame: &[u8], output: &mut [u8]) -> Option<Answer> {
     let mut told = [0u8; 8];
     // Each block is a whole slice, and the callee writes only within the lengths it is given.
