@@ -31,17 +31,17 @@ impl Answer {
     }
 }
 
-/// Why a call was refused; it has changed nothing then. They are tried in this order.
+/// Why a call was refused; it has changed nothing then. They are tried in this order, and named as in `crates/ledger/src/lib.rt`.
 #[derive(Clone, Copy, Debug, PartialEq, Eq)]
 pub enum Refusal {
     BadTable = 1,
-    WrongSize,
-    NotSound,
+    BadSize,
+    Damaged,
     BadCurrency,
     Unknown,
     NoCurrent,
-    Unfit,
-    WrongLength,
+    WrongKind,
+    BadLength,
     NoRecord,
     Duplicate,
     NoRoom,
@@ -52,13 +52,13 @@ use Refusal::*;
 
 const ALL: [(Refusal, &str); 12] = [
     (BadTable, "the definition table breaks a rule"),
-    (WrongSize, "the file is not 512 bytes for each page of the table"),
-    (NotSound, "the file is not sound"),
+    (BadSize, "the file is not 512 bytes for each page of the table"),
+    (Damaged, "the file is not sound"),
     (BadCurrency, "the currency breaks its rule"),
     (Unknown, "no such call, type or chain"),
     (NoCurrent, "no current record to start from"),
-    (Unfit, "this type or chain does not take this call"),
-    (WrongLength, "data or key of another length than defined"),
+    (WrongKind, "this type or chain does not take this call"),
+    (BadLength, "data or key of another length than defined"),
     (NoRecord, "no such record"),
     (Duplicate, "a forbidden duplicate would stand"),
     (NoRoom, "no page in the type's range has the room and a free line"),
