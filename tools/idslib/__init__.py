@@ -1,0 +1,1 @@
+"""The parts of tools/ids: definitions, sessions by name, and pictures of files."""
