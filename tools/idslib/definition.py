@@ -18,8 +18,9 @@
 
 import re
 
-from idslib.rules import (CALCULATED, CLASSES, DUPLICATES, NO_CHAIN, ORDERS, PRIMARY, SECONDARY, Broken, Chain,
-                          Definition, Field, Trouble, Type, check)
+from idslib.rules import (CALCULATED, CLASSES, DUPLICATES, ORDERS, PRIMARY, SECONDARY, Broken, Chain,
+                          Definition, Field, Trouble, Type, check, check_below,
+                          check_counts, check_numbers)
 
 NAME = re.compile(r"[A-Za-z][A-Za-z0-9_-]*$")
 FORMS = ("text", "number", "hex")
@@ -34,7 +35,8 @@ class Reader:
     """Reads the lines one after another; names are looked up when all are read."""
 
     def __init__(self, name):
-        self.file, self.d, self.here, self.later, self.said = name, Definition(), None, [], set()
+        self.file, self.d, self.here, self.said = name, Definition(), None, set()
+        self.ends, self.later = [], []  # what is looked up at the end: the types of chains, then all else
 
     def line(self, number, text):
         """One line: pages, a new type or chain, or a part of the one begun last."""
@@ -96,10 +98,16 @@ class Reader:
             needed(one, one.spots["type"], data=one.length, **{"class": one.kind})
         for one in d.chains:
             needed(one, one.spots["chain"], master=one.master, detail=one.detail, order=one.order)
+        for step in self.ends:
+            step()
+        check_counts(d)
+        check_numbers(d)
+        check_fields(d)
+        for one in d.chains:
+            check_below(d, one)
         for step in self.later:
             step()
         check(d)
-        check_fields(d)
         return d
 
 
@@ -207,8 +215,7 @@ def part_end(reader, c, spot, words):
         raise bad(spot, f"say '{words[0]} TYPE'")
     setattr(c, words[0], -1)
     c.spots[words[0]] = spot
-    # Types are looked up first, so that keys find their type.
-    reader.later.insert(0, lambda: look_up_type(reader.d, c, spot, words))
+    reader.ends.append(lambda: look_up_type(reader.d, c, spot, words))
 
 
 def look_up_type(d, c, spot, words):

@@ -10,7 +10,7 @@ from idslib import values
 from idslib.pages import CALC, LINES
 from idslib.show import ring_name, runs
 
-COLOURS = ("#0b62a8", "#c2410c", "#15803d", "#7e22ce", "#b91c1c", "#0e7490", "#a16207", "#be185d",
+COLOURS = ("#0b62a8", "#c2410c", "#15803d", "#7e22ce", "#0f766e", "#0e7490", "#a16207", "#be185d",
            "#4d7c0f", "#3730a3", "#9a3412", "#166534", "#86198f", "#1e40af", "#854d0e", "#9f1239")
 GREY, INK, RED = "#6b7280", "#111827", "#b91c1c"
 SIZE, LETTER = 13, 7.9            # font size and the width of a letter
@@ -187,7 +187,7 @@ def colour(ring):
 def head(width, height, links):
     """The opening of the picture, with an arrow head for each ring."""
     marks = "".join(
-        f'<marker id="to{ring}" viewBox="0 0 8 8" refX="8" refY="4" markerWidth="7" markerHeight="7" orient="auto">'
+        f'<marker id="to{ring}" viewBox="0 0 8 8" refX="8" refY="4" markerWidth="5" markerHeight="5" orient="auto">'
         f'<path d="M0 0L8 4L0 8z" fill="{colour(ring)}"/></marker>' for ring in sorted({link.ring for link in links}, key=str))
     return (f'<svg xmlns="http://www.w3.org/2000/svg" width="{width:.0f}" height="{height:.0f}" viewBox="0 0 {width:.0f} {height:.0f}" '
             f'font-family="DejaVu Sans Mono, Consolas, monospace" font-size="{SIZE}">\n<defs>{marks}</defs>\n'

@@ -1,5 +1,7 @@
 """Reads a data file's bytes as far as they make sense. It looks and reports, and does not judge soundness."""
 
+import collections
+
 from idslib.rules import CALCULATED, Trouble
 
 PAGE, HEADER, HEAD, LINK, LINES = 512, 16, 5, 3, 64
@@ -82,19 +84,20 @@ class File:
 
     def walk(self, ring, start, here, detail, name):
         """Goes NEXT from a start until home, or until something is wrong."""
-        met = []
+        met = {}  # keeps the order, and is quick to look in
+        last = start
         while here != start:
             found = self.records.get(here)
-            wrong = self.stop(found, here, met, ring, detail)
+            wrong = self.stop(found, here, last, met, ring, detail)
             if wrong:
-                return Ring(ring, start, met, f"{name} does not come home: {wrong}")
-            met.append(here)
+                return Ring(ring, start, list(met), f"{name} does not come home: {wrong}")
+            met[here], last = True, here
             here = found.links[ring, "NEXT"]
-        return Ring(ring, start, met, None)
+        return Ring(ring, start, list(met), None)
 
-    def stop(self, found, here, met, ring, detail):
+    def stop(self, found, here, last, met, ring, detail):
         """Why a walk cannot go on over this code, or None."""
-        after = f" after {met[-1]:06X}" if met else ""
+        after = f" after {last:06X}"
         if found is None:
             return f"NEXT{after} is {here:06X}, where no record is"
         if here in met:
@@ -110,11 +113,11 @@ class File:
         """Notes records that no ring of their own reached, or that two did."""
         for ring in [*range(len(self.d.chains)), CALC]:
             name = CALC if ring == CALC else f"chain {self.d.chains[ring].name}"
-            met = [code for one in self.rings if one.chain == ring for code in one.met]
+            met = collections.Counter(code for one in self.rings if one.chain == ring for code in one.met)
             for code, record in sorted(self.records.items()):
                 due = record.kind.kind == CALCULATED if ring == CALC else record.kind.number == self.d.chains[ring].detail
-                if due and met.count(code) != 1:
-                    times = "in no ring" if code not in met else f"in {met.count(code)} rings"
+                if due and met[code] != 1:
+                    times = f"in {met[code]} rings" if met[code] else "in no ring"
                     self.notes.append(f"{record.kind.name} {code:06X} is {times} of {name}")
 
 

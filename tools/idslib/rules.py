@@ -106,12 +106,11 @@ def must(holds, spot, found, rule):
 
 
 def check(definition):
-    """Every rule, in the table's order; the first that is broken is raised."""
+    """Every rule: counts, numbers, types, chains; the first that is broken is raised."""
     check_counts(definition)
-    below = 0
+    check_numbers(definition)
     for t in definition.types:
-        check_type(definition, t, below)
-        below = t.number
+        check_type(definition, t)
     for c in definition.chains:
         check_chain(definition, c)
 
@@ -123,11 +122,18 @@ def check_counts(d):
     must(len(d.chains) <= 16, d.spots["chains"], f"{len(d.chains)} chains", "chains")
 
 
-def check_type(d, t, below):
-    """The rules of one type; `below` is the number of the type before it."""
+def check_numbers(d):
+    """The types' numbers."""
+    below = 0
+    for t in d.types:
+        must(1 <= t.number <= 999, t.spots["number"], f"type {t.name} has number {t.number}", "number")
+        must(below < t.number, t.spots["number"], f"type {t.name} has number {t.number}, after {below}", "number")
+        below = t.number
+
+
+def check_type(d, t):
+    """The other rules of one type."""
     at = t.spots
-    must(1 <= t.number <= 999, at["number"], f"type {t.name} has number {t.number}", "number")
-    must(below < t.number, at["number"], f"type {t.name} has number {t.number}, after {below}", "number")
     must(0 <= t.length <= 200, at["length"], f"type {t.name} has {t.length} bytes of data", "length")
     must(t.kind in (PRIMARY, SECONDARY, CALCULATED), at["class"], f"type {t.name} has class {t.kind}", "class")
     must(1 <= t.low <= t.high <= d.pages, at["range"], f"type {t.name} lies on pages {t.low} to {t.high} of {d.pages}", "range")
@@ -169,8 +175,7 @@ def check_chain(d, c):
     at = c.spots
     must(d.type_numbered(c.master), at["master"], f"chain {c.name} has master type {c.master}, which is not defined", "defined")
     must(d.type_numbered(c.detail), at["detail"], f"chain {c.name} has detail type {c.detail}, which is not defined", "defined")
-    must(c.master < c.detail, at["detail"],
-         f"chain {c.name} goes from {type_name(d, c.master)} ({c.master}) to {type_name(d, c.detail)} ({c.detail})", "below")
+    check_below(d, c)
     must(c.order in (FIRST, LAST, RISING, FALLING), at["order"], f"chain {c.name} has order {c.order}", "order")
     must(c.prior in (0, 1), at["prior"], f"chain {c.name} has linked prior {c.prior}", "prior")
     must(c.is_sorted() or c.duplicates == 0, at["duplicates"], f"chain {c.name} has order {ORDERS[c.order]} and duplicates {c.duplicates}", "unsorted")
@@ -180,3 +185,9 @@ def check_chain(d, c):
         must(c.duplicates in (0, 1, 2), at["duplicates"], f"chain {c.name} has duplicates {c.duplicates}", "duplicates")
         must(c.key_length >= 1 and c.key_offset + c.key_length <= length, at["key"],
              f"chain {c.name} has a key of offset {c.key_offset}, length {c.key_length} in {length} bytes of data", "sort key")
+
+
+def check_below(d, c):
+    """The master's number is below the detail's."""
+    must(c.master < c.detail, c.spots["detail"],
+         f"chain {c.name} goes from {type_name(d, c.master)} ({c.master}) to {type_name(d, c.detail)} ({c.detail})", "below")

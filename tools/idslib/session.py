@@ -234,7 +234,7 @@ def refusal(d, call, code):
     return {
         1: "the definition table breaks a rule, or no table was accepted yet; look at the definition ('ids table' names line and rule)",
         2: "the file is not 512 bytes for each page of the table; look at whether file and definition belong together",
-        3: "the file is not sound; look at it with 'ids show', and take it from a copy",
+        3: "the file is not sound; look at it with 'ids show', and go back to a copy that is sound",
         4: "the currency breaks its rule; an entry names no present record, or one of a wrong type",
         11: "no page in the type's range has the room and a free line; look at the free bytes of its pages ('ids show'), or delete",
         12: "the output is shorter than the record's data; give READ room for the type's data length",
@@ -304,4 +304,4 @@ def duplicate(d, call):
     types = [call.kind] if call.kind else []
     calc = [f"the CALC key of {t.name}" for t in types if t.kind == CALCULATED]
     keys = [f"the key in chain {c.name}" for t in types for c in d.chains if c.detail == t.number and c.is_sorted() and c.duplicates == 2]
-    return "a forbidden duplicate would stand; look at " + (" and ".join(calc + keys) or "the keys that were changed")
+    return "a forbidden duplicate would stand; look at " + (" or ".join(calc + keys) or "the keys that were changed")
