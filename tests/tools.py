@@ -229,7 +229,7 @@ def test_session(player, library):
         same(f"refusal {code} has words", len(session.refusal(d, call, code)) > 20, True)
 
 
-def test_lines():
+def test_lines(player):
     """Lines that are no call say what is wrong with them; a prompt goes on after them."""
     d = definition.read(LAB, "lab")
     for line, part in (("stor rack", "no call"), ("store shelf", "no type"), ("next", "needs a chain"), ("store rack size=1", "no field"),
@@ -240,7 +240,8 @@ def test_lines():
         found = str(trouble(lambda: session.call_of(d, session.words_of(line), line)))
         same(f"'{line}' says '{part}'", part in found, True)
     out = io.StringIO()
-    play.Desk(d, engines.Player(engines.PLAYER, words.frame(d)), out=out).prompt(io.StringIO("help\nstor\nstore rack name=R1\nmodify name=R2\nread\nquit\nread\n"))
+    play.Desk(d, engines.Player(player, words.frame(d)), out=out).prompt(
+        io.StringIO("help\nstor\nstore rack name=R1\nmodify name=R2\nread\nquit\nread\n"))
     same("the prompt's last answer", out.getvalue().splitlines()[-2:], ["ids>   rack 000041 (page 1 line 1): name=R2", "ids> "])
 
 
@@ -316,7 +317,7 @@ def ids(*arguments, given=""):
     return done.returncode, done.stdout, done.stderr
 
 
-def test_command():
+def test_command(player, library):
     """The subcommands one after another, in a folder of their own."""
     for name in ("table", "define", "play", "show", "draw"):
         same(f"{name} --help", ids(name, "--help")[0], 0)
@@ -325,14 +326,16 @@ def test_command():
         lab, file, codes, picture = LESSONS / "lab.def", folder / "file", folder / "codes", folder / "out.svg"
         code, frame, _ = ids("table", lab, "--frame")
         same("a definition from standard input", ids("table", "-", "--frame", given=ids("define", "-", given=frame)[1]), (0, frame, ""))
-        code, told, _ = ids("play", lab, LESSONS / "1-occurrence.play", "--frames")
+        over = ("--shared", library) if library else ("--library",)
+        lesson = (lab, LESSONS / "1-occurrence.play", "--frames")
+        code, told, _ = ids("play", *lesson, "--player", player)
         same("play", (code, told.count("\n")), (0, 19 * 4))
-        same("play over the library", ids("play", lab, LESSONS / "1-occurrence.play", "--frames", "--keep", file, "--keep-currency", codes)[1], told)
+        same("play over the library", ids("play", *over, *lesson, "--keep", file, "--keep-currency", codes)[1], told)
         before = file.read_bytes()
         code, told, _ = ids("show", lab, file, "--currency", codes)
         same("show", (code, "run: rack 000041 name=R1" in told), (0, True))
         same("draw", (ids("draw", lab, file, picture)[0], xml.parse(picture).getroot().tag), (0, "{http://www.w3.org/2000/svg}svg"))
-        code, told, _ = ids("play", lab, "--start", file, "--start-currency", codes, given="delete\n")
+        code, told, _ = ids("play", *over, lab, "--start", file, "--start-currency", codes, given="delete\n")
         same("play goes on from a file", (code, "3 records below it: 4 in all" in told), (0, True))
         same("the file is as it was", file.read_bytes(), before)
         bad = folder / "bad.def"
@@ -356,10 +359,10 @@ def main():
     test_rules()
     test_odd()
     test_session(asked.player, asked.library)
-    test_lines()
+    test_lines(asked.player)
     test_show(asked.library)
     test_draw(asked.library, rng)
-    test_command()
+    test_command(asked.player, asked.library)
     print(f"tools: {len(RULES)} rules, {len(EDITS) + len(WORDS)} ways to break them, {len(CALLS.splitlines())} calls by name, "
           "files shown and drawn: as they should be")
 

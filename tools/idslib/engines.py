@@ -84,14 +84,14 @@ def loaded(path):
     if path:
         return opened(path)
     if not ARCHIVE.exists():
-        raise Trouble(f"{ARCHIVE} is not there; 'rt staticlib gerunjap' builds it, or name a shared object with --library")
+        raise Trouble(f"{ARCHIVE} is not there; 'rt staticlib gerunjap' builds it, or name a shared object with --shared")
     with tempfile.TemporaryDirectory() as folder:
         made = pathlib.Path(folder) / "libgerunjap.so"
         command = ["gcc", "-shared", "-o", made, "-Wl,--whole-archive", ARCHIVE, "-Wl,--no-whole-archive"]
         try:
             subprocess.run(command, check=True)
         except (OSError, subprocess.CalledProcessError):
-            raise Trouble("gcc could not make a shared object of the archive; name one with --library") from None
+            raise Trouble("gcc could not make a shared object of the archive; name one with --shared") from None
         return opened(made)
 
 
