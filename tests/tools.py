@@ -190,6 +190,9 @@ def test_rules():
     for place, word, rule in WORDS:
         found = trouble(lambda: words.definition(table[:place] + [word] + table[place + 1:]))
         same(f"word {place}: {word}", (type(found), getattr(found, "rule", None)), (Broken, rule))
+        # The spot is the word, or the pair that it is one of; a class or order that changed leaves another word in the wrong.
+        if rule != "words" and (place, word) != (21, 0):
+            same(f"the spot of word {place}", str(place) in found.spot.split(), True)
         met.add(rule)
     many = "pages 1\n" + "".join(f"type t{i} {i}\n data 0\n class primary\n" for i in range(1, 18))
     same("17 types", trouble(lambda: definition.read(many, "lab")).rule, "types")
@@ -235,6 +238,7 @@ def test_lines(player):
     for line, part in (("stor rack", "no call"), ("store shelf", "no type"), ("next", "needs a chain"), ("store rack size=1", "no field"),
                        ("store rack name=LONGER", "room for 4"), ("store rack name", "FIELD=VALUE"), ("direct x", "no code"),
                        ("direct 1.64", "lines go"), ("find boards", "key is missing"), ("find boards serial=000000", "no part of the key"),
+                       ("store rack name=\u00e9", "not ASCII"),
                        ("store board slot=256", "below 256"), ("store board serial=00", "has 3 bytes"), ("read now", "takes 0"),
                        ("frame 00 0001", "one definition"), ("store rack name='R", "cannot be read")):
         found = str(trouble(lambda: session.call_of(d, session.words_of(line), line)))
@@ -295,17 +299,29 @@ def check_picture(name, file, text):
         same(f"{name}: '{box[4]}' lies within the picture", box[2] <= float(top.get("width")) and box[3] <= float(top.get("height")), True)
         for other in boxes[:i]:
             same(f"{name}: '{box[4]}' on '{other[4]}'", meet(box, other), False)
+    lines = []
     for path in top.iter(tag + "path"):
         numbers = re.fullmatch(r"M([\d.]+) ([\d.]+)H([\d.]+)V([\d.]+)H([\d.]+)", path.get("d"))
         if numbers:
             x, y1, lane, y2, _ = map(float, numbers.groups())
-            for part in ((min(x, lane), y1, max(x, lane), y1), (lane, min(y1, y2), lane, max(y1, y2)), (min(x, lane), y2, max(x, lane), y2)):
+            parts = [(min(x, lane), y1, max(x, lane), y1), (lane, min(y1, y2), lane, max(y1, y2)), (min(x, lane), y2, max(x, lane), y2)]
+            for part in parts:
                 same(f"{name}: an arrow on a text", [box[4] for box in boxes if meet(part, box)], [])
+                same(f"{name}: an arrow on an arrow", [line for line in lines if overlap(part, line)], [])
+            lines += parts
 
 
 def meet(a, b):
     """Whether two boxes have a point in common."""
     return a[0] < b[2] and b[0] < a[2] and a[1] < b[3] and b[1] < a[3]
+
+
+def overlap(a, b):
+    """Whether two upright or two level lines lie on each other; crossing is allowed."""
+    for along, across in ((0, 1), (1, 0)):
+        if a[across] == a[across + 2] == b[across] == b[across + 2]:
+            return a[along] < b[along + 2] and b[along] < a[along + 2]
+    return False
 
 
 # The command

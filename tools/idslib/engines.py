@@ -21,9 +21,13 @@ class Player:
 
     def ask(self, frames):
         """The answers to these frames, after all that were asked before."""
-        told = self.run([self.first, *self.frames, *frames])
+        if not frames:
+            return []
         self.frames += frames
-        return told[len(told) - len(frames):] if frames else []
+        told = self.run([self.first, *self.frames])
+        if len(told) != 1 + len(self.frames):
+            raise Trouble(f"the player gave {len(told)} answers to {1 + len(self.frames)} frames")
+        return told[-len(frames):]
 
     def run(self, frames):
         """All answers of one run of the player."""

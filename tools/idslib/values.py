@@ -4,15 +4,24 @@ from idslib.rules import Trouble
 
 
 def data_of(t, pairs, before=None):
-    """A type's data: the fields given, laid over `before` or zeros; `data=HEX` gives all of it, of any length."""
+    """A type's data: the fields given, laid over `before` or blanks; `data=HEX` gives all of it, of any length."""
     if "data" in pairs:
         if len(pairs) > 1:
             raise Trouble("data=HEX gives all of the data; other fields cannot stand beside it")
         return from_hex(pairs["data"])
-    data = bytearray(before if before is not None else bytes(t.length))
+    data = bytearray(before if before is not None else blank(t))
     for name, value in pairs.items():
         f = field_named(t, name)
         data[f.offset:f.offset + f.length] = field_bytes(f, value)
+    return bytes(data)
+
+
+def blank(t):
+    """Data that nothing was said about: spaces in text, else zeros."""
+    data = bytearray(t.length)
+    for f in t.fields:
+        if f.form == "text":
+            data[f.offset:f.offset + f.length] = b" " * f.length
     return bytes(data)
 
 
@@ -21,10 +30,14 @@ def key_of(t, owner, pairs):
     if "key" in pairs and len(pairs) == 1:
         return from_hex(pairs["key"])
     low, high = owner.key_offset, owner.key_offset + owner.key_length
+    lacking = set(range(low, high))
     for name in pairs:
         f = field_named(t, name)
         if f.offset + f.length <= low or high <= f.offset:
             raise Trouble(f"field {name} is no part of the key, which is bytes {low} to {high - 1} of {t.name}")
+        lacking -= set(range(f.offset, f.offset + f.length))
+    if lacking:
+        raise Trouble(f"the key is bytes {low} to {high - 1} of {t.name}, and the fields given do not make up all of it; say key=HEX")
     return data_of(t, pairs)[low:high]
 
 
@@ -56,7 +69,9 @@ def field_bytes(f, value):
         if not value.isdigit() or int(value) >= 256 ** f.length:
             raise Trouble(f"field {f.name} holds a whole number below {256 ** f.length}, and '{value}' is none")
         return int(value).to_bytes(f.length, "big")
-    data = value.encode("latin-1", "replace")
+    if not value.isascii():
+        raise Trouble(f"field {f.name}: '{value}' has letters that are not ASCII; say 0x..")
+    data = value.encode("ascii")
     if len(data) > f.length:
         raise Trouble(f"field {f.name} has room for {f.length} letters, and '{value}' has {len(data)}")
     return data.ljust(f.length)

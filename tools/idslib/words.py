@@ -49,8 +49,8 @@ def filled(one, words, at, row):
     """A type or chain with its row of words and their spots."""
     for place, (name, spot) in enumerate(row):
         setattr(one, name, words[at + place])
-        if spot not in one.spots or spot != "range":
-            one.spots[spot] = f"word {at + place}"
+        first = one.spots.get(spot)
+        one.spots[spot] = f"words {at + place - 1} and {at + place}" if first else f"word {at + place}"
     return one
 
 
