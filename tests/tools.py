@@ -243,6 +243,11 @@ def test_lines(player):
                        ("frame 00 0001", "one definition"), ("store rack name='R", "cannot be read")):
         found = str(trouble(lambda: session.call_of(d, session.words_of(line), line)))
         same(f"'{line}' says '{part}'", part in found, True)
+    same("a record with no field given", session.call_of(d, ["store", "rack"], "").frame, "01 000A 20202020")
+    wide = definition.read(edited(15, "order rising by 0 4"), "lab")
+    found = str(trouble(lambda: session.call_of(wide, ["find", "boards", "slot=1"], "")))
+    same("a key given in part", "do not make up all of it" in found, True)
+    same("a key of two fields", session.call_of(wide, ["find", "boards", "slot=1", "serial=00000A"], "").frame, "0C 00 0100000A")
     out = io.StringIO()
     play.Desk(d, engines.Player(player, words.frame(d)), out=out).prompt(
         io.StringIO("help\nstor\nstore rack name=R1\nmodify name=R2\nread\nquit\nread\n"))
@@ -265,7 +270,7 @@ def test_show(library):
     d, data, currency = kept(library, "rings", "3-rings.play")
     text = show.text(pages.File(d, data), currency)
     for part in ("page 1: 449 bytes free, 5 lines used", "000041 name=R1 -> 000043 slot=1 -> 000044 slot=2 -> home",
-                 "boards NEXT 000044", "run: board 000045 slot=3", "type rack: rack 000042 name=R2", "Every ring came home"):
+                 "boards NEXT 000044", "run: board 000045 slot=3", "type rack: rack 000042 name=R2", "chain boards: board 000045 slot=3", "Every ring came home"):
         same(f"show says '{part}'", part in text, True)
     for at, byte, part in ((62, 0x41, "another master"), (62, 0x45, "met before"), (62, 0x77, "where no record is"),
                            (35, 0x42, "is in no ring"), (35, 0x43, "is in 2 rings"), (37, 0x15, "are no record"), (2, 0x41, "header says")):
