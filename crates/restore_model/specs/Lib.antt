@@ -1,0 +1,4 @@
+-- What the journal's functions compute.
+pub mod Texts
+pub mod Walks
+pub mod Promises
