@@ -1,4 +1,5 @@
 -- What the journal's functions compute.
 pub mod Texts
 pub mod Walks
+pub mod Plans
 pub mod Promises
