@@ -9,3 +9,5 @@ pub mod Survives
 pub mod Chains
 pub mod Restart
 pub mod Order
+pub mod Dues
+pub mod RecoveryWrites

@@ -9,3 +9,4 @@ pub mod Walking
 pub mod PutBack
 pub mod Restores
 pub mod Both
+pub mod Dues
