@@ -8,5 +8,8 @@ pub mod Steps
 pub mod Walking
 pub mod PutBack
 pub mod Restores
+pub mod Marked
+pub mod Marks
+pub mod PutsLine
 pub mod Both
 pub mod Dues

@@ -41,7 +41,7 @@ digits-put (b ∷ bs) out at h =
     rw (le-ltb (length out) (at + 2) (omega arith), digits-put bs (hexPut out at b) (at + 2) (rw (length-set, length-set) (omega arith)), e, add-one at)
 
 -- a line put: its bytes in two parts, and its line end
-line-put : (cs bs out : List ℕ) (at : ℕ) → at + 2 * length cs + 2 * length bs + 1 ≤ length out
+pub line-put : (cs bs out : List ℕ) (at : ℕ) → at + 2 * length cs + 2 * length bs + 1 ≤ length out
     → set (digitsPut (digitsPut out at cs) (at + 2 * length cs) bs) (at + 2 * length cs + 2 * length bs) 10 ≡ sets out at (line (cs ++ bs))
 unfolding line
 line-put cs bs out at h =
