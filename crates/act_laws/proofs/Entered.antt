@@ -20,7 +20,7 @@ use Rattle.ledger.proofs.Ledger.Rows.{range-within, Within, size-least, size-sm
 use Rattle.ledger.proofs.Keeps.Changes.{written-there, written-kind, written-bytes, written-placed}
 use Rattle.ledger.proofs.Keeps.Placing.{Taking}
 use Rattle.ledger.proofs.Keeps.Stored.{stored-at, stored-at-else}
-use Rattle.model.specs.Reads.{pageIn}
+use Rattle.ledger.specs.Bytes.{pageIn}
 use Rattle.model.specs.Room.{firstGap}
 use Rattle.model.specs.Moves.{putIn}
 use Rattle.ledger.proofs.Image.Images.{sound-imaged}

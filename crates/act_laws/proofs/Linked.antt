@@ -18,7 +18,7 @@ use Rattle.ledger.proofs.Lists.Tests.{byCases, same-or-not, both, clash, not-tr
 use Rattle.place_laws.proofs.With.{Small}
 use Rattle.place_laws.proofs.Written.{put2, put2-here, put2-chain, put2-code, linked-put, linked-small}
 use Rattle.ring_laws.proofs.Rounds.{detail-in-chain}
-use Rattle.model.specs.Reads.{pageIn}
+use Rattle.ledger.specs.Bytes.{pageIn}
 use Rattle.model.specs.Room.{firstGap}
 use Rattle.model.specs.Moves.{putIn}
 use Rattle.act_model.specs.Storing.{lacksCurrent, gapIn, enteredIn, enteredFrom, enteredAll}

@@ -21,7 +21,7 @@ use Rattle.ledger.proofs.Ledger.Rows.{row-number, type-row, size-least, Within,
 use Rattle.ledger.proofs.Ledger.Records.{record-sized}
 use Rattle.ledger.proofs.Image.Images.{sound-imaged}
 use Rattle.ledger.proofs.Keeps.Placing.{Taking, tried-in-range, base-in-range, record-place, taking}
-use Rattle.model.specs.Reads.{pageIn}
+use Rattle.ledger.specs.Bytes.{pageIn}
 use Rattle.model.specs.Room.{firstGap}
 use Rattle.place_laws.proofs.Room.{image-free, image-gap}
 use Rattle.ring_laws.proofs.Masters.{sound-occurrence}

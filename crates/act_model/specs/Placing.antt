@@ -7,10 +7,9 @@ use Rattle.ledger.specs.declared.Currency.{Currency}
 use Rattle.ledger.specs.Numbers.{firstOf}
 use Rattle.ledger.specs.Table.{row, class, low, high, via, calcKey}
 use Rattle.ledger.specs.Pages.{pageOf, recordSize, home}
-use Rattle.ledger.specs.Bytes.{twoAt}
+use Rattle.ledger.specs.Bytes.{twoAt, pageIn}
 use Rattle.ledger.specs.Currency.{typeCurrent, chainCurrent}
 use Rattle.ledger.specs.Calls.{tried}
-use Rattle.model.specs.Reads.{pageIn}
 use Rattle.model.specs.Room.{firstGap}
 use Rattle.ring_model.specs.Rings.{masterIn}
 

@@ -13,7 +13,8 @@ use Rattle.ledger.specs.Calls.{asDetail}
 use Rattle.model.specs.declared.Gap.{Gap}
 use Rattle.model.specs.declared.Between.{Between}
 use Rattle.model.specs.declared.Places.{Places}
-use Rattle.model.specs.Reads.{pageIn, headNextIn}
+use Rattle.model.specs.Reads.{headNextIn}
+use Rattle.ledger.specs.Bytes.{pageIn}
 use Rattle.model.specs.Room.{firstGap}
 use Rattle.model.specs.Writes.{calcNextPut, headPut, linkedIn}
 use Rattle.model.specs.Moves.{putIn}

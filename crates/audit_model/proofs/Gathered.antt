@@ -14,7 +14,7 @@ use borrow.Author.Tests.{eqb-true, eqb-false, ne-eqb, leb-true, leb-false}
 use Rattle.ledger.specs.Numbers.{elem, keep, run, once, part}
 use Rattle.ledger.specs.Table.{pages, row, dataLen, keyAt, keyLen, calculated, calcKey}
 use Rattle.ledger.specs.Pages.{pageOf, lineOf, codes}
-use Rattle.ledger.specs.Bytes.{twoAt, sizeAt, lineAt, lookup}
+use Rattle.ledger.specs.Bytes.{twoAt, sizeAt, lineAt, lookup, pageStart}
 use Rattle.ledger.proofs.Lists.Tests.{byCases, same-or-not, not-true-false}
 use Rattle.ledger.proofs.Lists.Members.{elem-cases, elem-here, elem-tail, elem-nil, elem-run, run-elem}
 use Rattle.ledger.proofs.Lists.Sieves.{keep-append, length-keep}
@@ -22,7 +22,7 @@ use Rattle.ledger.proofs.Lists.Pairs.{once-nil, once-cons}
 use Rattle.ledger.proofs.Lists.Runs.{run-append, length-run}
 use Rattle.ledger.proofs.Lists.Parts.{take-drop-take, getD-part}
 use Rattle.ledger.proofs.Bytes.Lookup.{lookup-out, lookup-limit, lookup-stop, lookup-here, lookup-past}
-use Rattle.model.specs.Reads.{lineIn, pageStart, placeIn}
+use Rattle.model.specs.Reads.{lineIn, placeIn}
 use Rattle.audit_model.specs.Sorting.{keyFrom}
 use Rattle.audit_model.specs.Twins.{calculatedAt, gatherFrom, gathered, codeFrom, twinFault}
 use Rattle.audit_model.proofs.Twinned.{fault-none, none-fault}

@@ -9,9 +9,8 @@ use lib.Dec.{eqb, ltb, leb}
 use Rattle.ledger.specs.Numbers.{part}
 use Rattle.ledger.specs.Table.{pages, low, high, row, defined, Accepted}
 use Rattle.ledger.specs.Pages.{pageOf, lineOf, recordSize}
-use Rattle.ledger.specs.Bytes.{twoAt, threeAt, sizeAt, lineAt, lookup}
+use Rattle.ledger.specs.Bytes.{twoAt, threeAt, sizeAt, lineAt, lookup, pageStart}
 use Rattle.ledger.specs.Image.{Imaged}
-use Rattle.model.specs.Reads.{pageStart}
 use Rattle.model.specs.Room.{flagsAt}
 
 -- whether a record of type n has its type's size and may stand on page p

@@ -6,7 +6,7 @@ pub mod walk;
 ghost use mathlib.Core.Path.{_≡_};
 ghost use Rattle.restore_model.specs.Texts.{differs, imagesOn};
 ghost use Rattle.restore_model.specs.Walks.{recoverOn};
-ghost use Rattle.restore_model.specs.Promises.{Tells, Starts, Restores};
+ghost use Rattle.ledger.specs.Journal.Promises.{Tells, Starts, Restores};
 
 // Recovery is done.
 pub const RECOVERED: u8 = 0;
@@ -23,7 +23,7 @@ pub extern "C" fn gerunjap_changed(before: &[u8], after: &[u8], page: u32) -> u8
     ensures computed { λ r. ⌜ r ≡ differs (now (before .entry)) (now (after .entry)) page ⌝ }
     ensures tells { λ r. ⌜ Tells (now (before .entry)) (now (after .entry)) page r ⌝ }
 {
-    text::differs(before, after, page)
+    text::differs(before, after, page as usize)
 }
 
 // Puts the journal text of a call that changes the file from `before` to `after`, up to its ready line, into `out`; its length, 0 where no page

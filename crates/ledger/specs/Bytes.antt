@@ -2,7 +2,7 @@
 use Prim.Native.Nat.{ℕ, zero, suc, _+_, _*_, _-_, _≤_, _<_}
 use mathlib.Core.Path.{_≡_}
 use mathlib.Core.Bool.{true, cond, _||_}
-use mathlib.Core.List.{List, _++_}
+use mathlib.Core.List.{List, [], _++_}
 use lib.ListN.{length, getD, take, drop, replicate}
 use lib.Dec.{eqb, leb}
 use Rattle.ledger.specs.Numbers.{digits, run, concatOf, part}
@@ -30,6 +30,14 @@ twoAt f i = getD f i 0 * 256 + getD f (i + 1) 0
 
 unfoldable pub threeAt : List ℕ → ℕ → ℕ
 threeAt f i = (getD f i 0 * 256 + getD f (i + 1) 0) * 256 + getD f (i + 2) 0
+
+-- where page p, from 1 on, starts in a file
+abbrev pub pageStart : ℕ → ℕ
+pageStart p = 512 * (p - 1)
+
+-- page p, as far as the file has it; no bytes for page 0
+unfoldable pub pageIn : List ℕ → ℕ → List ℕ
+pageIn f p = cond (eqb p 0) [] (part (pageStart p) 512 f)
 
 -- the size and the line in the head of a record that starts there
 unfoldable pub sizeAt : List ℕ → ℕ → ℕ

@@ -12,6 +12,8 @@ pub mod Line
 pub mod Interface
 pub mod History
 pub mod Examples
+-- A request of document 02.
+pub mod Journal
 -- What stands between a file's bytes and its ledger: what the functions below the calls promise.
 pub mod Bytes
 pub mod Walks

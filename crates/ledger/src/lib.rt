@@ -113,3 +113,10 @@ impl Outcome {
         }
     }
 }
+
+// The write of a journal that is due: 1 the image of a page, 2 ready, 3 a page stored, 4 done; in recovery 5 a page put back, 6 the journal emptied;
+// 0 none. `page` is 0 where the write is of no page.
+pub struct Due {
+    pub phase: u8,
+    pub page: usize,
+}

@@ -7,9 +7,9 @@ use lib.Seq.{sets}
 use lib.Dec.{eqb, ltb}
 use Rattle.ledger.specs.Numbers.{part}
 use Rattle.ledger.specs.Pages.{pageOf, lineOf}
-use Rattle.ledger.specs.Bytes.{twoAt, sizeAt, lineAt}
+use Rattle.ledger.specs.Bytes.{twoAt, sizeAt, lineAt, pageStart}
 use Rattle.model.specs.declared.Gap.{Gap}
-use Rattle.model.specs.Reads.{lineIn, pageStart}
+use Rattle.model.specs.Reads.{lineIn}
 use Rattle.model.specs.Room.{flagsAt}
 use Rattle.model.specs.Writes.{threePut}
 

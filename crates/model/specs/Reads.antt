@@ -7,15 +7,11 @@ use lib.Dec.{eqb, ltb}
 use Rattle.ledger.specs.Numbers.{part}
 use Rattle.ledger.specs.Table.{row, dataLen}
 use Rattle.ledger.specs.Pages.{pageOf, lineOf, calcAt, linkAt}
-use Rattle.ledger.specs.Bytes.{twoAt, threeAt, lookup}
+use Rattle.ledger.specs.Bytes.{twoAt, threeAt, pageStart, lookup}
 
 -- where a line's record starts in a page, or 0
 unfoldable pub lineIn : List ℕ → ℕ → ℕ
 lineIn page line = lookup 508 63 page 16 line
-
--- where page p, from 1 on, starts in a file
-abbrev pub pageStart : ℕ → ℕ
-pageStart p = 512 * (p - 1)
 
 -- where the record of code c starts in a file, or 0
 unfoldable pub placeIn : List ℕ → ℕ → ℕ
@@ -24,10 +20,6 @@ placeIn f c =
     cond (eqb (pageOf c) 0) 0
     (cond (ltb (length f) (pageStart (pageOf c) + 512)) 0
     (cond (eqb o 0) 0 (pageStart (pageOf c) + o)))
-
--- page p, as far as the file has it; no bytes for page 0
-unfoldable pub pageIn : List ℕ → ℕ → List ℕ
-pageIn f p = cond (eqb p 0) [] (part (pageStart p) 512 f)
 
 -- the type of the record that starts at `at`, and the link that stands k bytes further; 0 where `at` is 0
 unfoldable pub kindFrom : List ℕ → ℕ → ℕ

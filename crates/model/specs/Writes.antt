@@ -6,7 +6,8 @@ use lib.ListN.{set}
 use lib.Dec.{eqb}
 use Rattle.ledger.specs.Table.{linkedPrior}
 use Rattle.ledger.specs.Pages.{pageOf, lineOf, calcAt, linkAt}
-use Rattle.model.specs.Reads.{pageStart, placeIn, kindIn}
+use Rattle.model.specs.Reads.{placeIn, kindIn}
+use Rattle.ledger.specs.Bytes.{pageStart}
 
 -- v in the three bytes from i on
 unfoldable pub threePut : List ℕ → ℕ → ℕ → List ℕ

@@ -4,8 +4,7 @@ use crate::lookup;
 use model::Gap;
 ghost use mathlib.Core.Path.{_≡_};
 ghost use Prim.Native.Nat.{_%_, _^_};
-ghost use Rattle.ledger.specs.Bytes.{twoAt};
-ghost use Rattle.model.specs.Reads.{pageIn};
+ghost use Rattle.ledger.specs.Bytes.{twoAt, pageIn};
 ghost use Rattle.model.specs.Room.{flagsAt, firstGap};
 
 // Page `p` of the file, or as many of its bytes as the file has.

@@ -14,7 +14,7 @@ use Rattle.ledger.proofs.Lists.Runs.{concatOf-same}
 use Rattle.ledger.proofs.Lists.Followers.{follower-first}
 use Rattle.ledger.proofs.Bytes.Pages.{page-length}
 use Rattle.ledger.proofs.Bytes.Writes.{page-same}
-use Rattle.model.specs.Reads.{pageStart}
+use Rattle.ledger.specs.Bytes.{pageStart}
 use Rattle.model.specs.Writes.{threePut}
 use Rattle.model.specs.Moves.{twoPut, flagsPut, countsPut, pageMade, onPage, madeFrom, fileMade}
 use Rattle.model.proofs.Fills.{put-whole}

@@ -12,7 +12,7 @@ use borrow.Author.Tests.{eq-eqb, ne-eqb, eqb-false, le-ltb, ltb-false}
 use Rattle.ledger.specs.Numbers.{part}
 use Rattle.ledger.specs.Table.{pages, chains, row, dataLen, calculated, inChain, linkedPrior, Accepted}
 use Rattle.ledger.specs.Pages.{codeOf, pageOf, lineOf, calcAt, linkAt, linkBytes, recordSize, page}
-use Rattle.ledger.specs.Bytes.{twoAt, threeAt, startOf, Formed}
+use Rattle.ledger.specs.Bytes.{twoAt, threeAt, startOf, Formed, pageStart}
 use Rattle.ledger.specs.Image.{kindRead, dataRead, nextRead, priorRead, Imaged}
 use Rattle.ledger.proofs.Lists.Tests.{byCases, clash}
 use Rattle.ledger.proofs.Lists.Parts.{getD-part, part-inside}
@@ -21,7 +21,7 @@ use Rattle.ledger.proofs.Bytes.Places.{record-part, record-inside}
 use Rattle.ledger.proofs.Bytes.Lookup.{lookup-found, lookup-none}
 use Rattle.ledger.proofs.Ledger.Rows.{kind-within, type-row, size-least, none-no-master, none-no-detail}
 use Rattle.ledger.proofs.Ledger.Fields.{calc-inside, link-inside}
-use Rattle.model.specs.Reads.{lineIn, pageStart, placeIn, kindFrom, linkFrom, kindIn, nextIn, priorIn, calcNextIn, headNextIn, dataIn}
+use Rattle.model.specs.Reads.{lineIn, placeIn, kindFrom, linkFrom, kindIn, nextIn, priorIn, calcNextIn, headNextIn, dataIn}
 
 -- where a chain's links end in a record
 pub next-inside : (t : List ℕ) (n j : ℕ) → j < chains t → inChain t j n ≡ true → linkAt t n j + 3 ≤ recordSize t n

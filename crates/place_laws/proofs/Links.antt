@@ -15,7 +15,8 @@ use Rattle.ledger.proofs.Lists.Parts.{replaced, replaced-inside}
 use Rattle.ledger.proofs.Lists.Digits.{length-digits}
 use Rattle.ledger.proofs.Bytes.Writes.{laid-head-put, laid-record-put}
 use Rattle.ledger.proofs.Bytes.Places.{record-inside}
-use Rattle.model.specs.Reads.{pageStart, placeIn}
+use Rattle.model.specs.Reads.{placeIn}
+use Rattle.ledger.specs.Bytes.{pageStart}
 use Rattle.model.specs.Writes.{threePut, linkPut, headPut}
 use Rattle.model.specs.Moves.{partPut}
 use Rattle.place_laws.proofs.Image.{image-length, image-within, image-place, image-there, image-part}

@@ -12,7 +12,7 @@ use borrow.Author.Tests.{ne-eqb, le-ltb, eqb-true}
 use Rattle.ledger.specs.Numbers.{run, firstOf, update}
 use Rattle.ledger.specs.Table.{pages, Accepted}
 use Rattle.ledger.specs.Pages.{codeOf, pageOf, lineOf, page, laid, used, free, flags}
-use Rattle.ledger.specs.Bytes.{startOf, opened, closed, Formed}
+use Rattle.ledger.specs.Bytes.{startOf, opened, closed, Formed, pageStart, pageIn}
 use Rattle.ledger.specs.Image.{Standing, Paged, Imaged}
 use Rattle.ledger.proofs.Lists.Tests.{same-or-not, update-same, update-other}
 use Rattle.ledger.proofs.Lists.Searches.{firstOf-passes}
@@ -21,7 +21,7 @@ use Rattle.ledger.proofs.Bytes.Places.{start-least, used-at, record-inside}
 use Rattle.ledger.proofs.Bytes.Lookup.{lookup-found, size-there, line-there}
 use Rattle.ledger.proofs.Bytes.Writes.{other-page, laid-page-put}
 use Rattle.ledger.proofs.Bytes.Moves.{bit, bit-some, flags-moved, flags-in, fits-moved, page-put-in, page-put-out, flags-small}
-use Rattle.model.specs.Reads.{pageStart, pageIn, lineIn}
+use Rattle.model.specs.Reads.{lineIn}
 use Rattle.model.specs.Room.{firstGap}
 use Rattle.model.specs.Moves.{closedByte, recordPut, recordTaken, lineTaken, onPage, putIn, takeOut}
 use Rattle.model.proofs.Counts.{less-by, counts-put}

@@ -12,14 +12,13 @@ use borrow.Author.Tests.{eq-eqb, ne-eqb, eqb-true, eqb-false}
 use Rattle.ledger.specs.Numbers.{digits, run, firstOf}
 use Rattle.ledger.specs.Table.{pages, Accepted}
 use Rattle.ledger.specs.Pages.{codeOf, header, page, used, free, flags}
-use Rattle.ledger.specs.Bytes.{twoAt, lineAt, sizeAt, startOf, Formed}
+use Rattle.ledger.specs.Bytes.{twoAt, lineAt, sizeAt, startOf, Formed, pageIn}
 use Rattle.ledger.specs.Image.{Imaged}
 use Rattle.ledger.proofs.Lists.Tests.{byCases}
 use Rattle.ledger.proofs.Bytes.Pages.{free-number}
 use Rattle.ledger.proofs.Bytes.Places.{start-first, start-next}
 use Rattle.ledger.proofs.Bytes.Lookup.{size-there, line-there, line-other}
 use Rattle.ledger.proofs.Bytes.Moves.{flags-small}
-use Rattle.model.specs.Reads.{pageIn}
 use Rattle.model.specs.Room.{flagsAt, gapFrom, firstGap}
 use Rattle.model.specs.declared.Gap.{Gap}
 use Rattle.place_laws.proofs.Image.{image-page}

@@ -13,14 +13,14 @@ use Rattle.ledger.proofs.Lists.Tests.{same-or-not}
 use Rattle.ledger.proofs.Lists.Members.{elem-here, elem-there, run-elem}
 use Rattle.ledger.proofs.Lists.Sieves.{keep-same, keep-none}
 use Rattle.ledger.proofs.Lists.Parts.{part-here}
-use Rattle.model.specs.Reads.{pageStart, pageIn}
-use Rattle.journal_model.specs.Journal.{Write, store, clear, Disk, disk, performed}
-use Rattle.journal_model.specs.Recovery.{restore, recovery}
-use Rattle.journal_model.specs.Dues.{due, marked, recoveryDues, writeDue}
-use Rattle.journal_model.proofs.Places.{page-is}
-use Rattle.journal_model.proofs.Cuts.{performed-append, Rises}
-use Rattle.journal_model.proofs.RecoveryWrites.{PutsBack, recovery-written}
-use Rattle.restore_model.specs.Promises.{storedIn, Told}
+use Rattle.ledger.specs.Bytes.{pageStart, pageIn}
+use Rattle.ledger.specs.Journal.Writes.{Write, store, clear, Disk, disk, performed}
+use Rattle.ledger.specs.Journal.Recovery.{restore, recovery}
+use Rattle.ledger.specs.Journal.Dues.{due, marked, recoveryDues, writeDue}
+use Rattle.journal_laws.proofs.Places.{page-is}
+use Rattle.journal_laws.proofs.Cuts.{Rises}
+use Rattle.journal_laws.proofs.RecoveryWrites.{PutsBack, recovery-written, stored-clear, file-left}
+use Rattle.ledger.specs.Journal.Promises.{storedIn, Told}
 
 -- a page is read in a file's front, whatever follows it
 page-front : (xs ys zs : List ℕ) (p : ℕ) → 1 ≤ p → 512 * p ≤ length xs → pageIn (xs ++ ys) p ≡ pageIn (xs ++ zs) p
@@ -68,28 +68,19 @@ module _ (n : ℕ) where
       rw page (ap (λ (vs : List Write). store p bs ∷ vs) (puts-due b d′ size′ f))
 
   -- the pages stored
-  stored-back : {q last : ℕ} {ws : List Write} → PutsBack n q last ws → storedIn (ws ++ (clear ∷ [])) ≡ storedIn ws
-  unfolding storedIn
-  stored-back PutsBack.end = refl
-  stored-back (PutsBack.next {p = p} lt fits long b) = ap (λ (ps : List ℕ). p ∷ ps) (stored-back b)
-
   stored-rise : {q last : ℕ} {ws : List Write} → PutsBack n q last ws → Rises n q (storedIn ws)
   unfolding storedIn
   stored-rise PutsBack.end = tt
   stored-rise (PutsBack.next lt fits long b) = (lt, fits, stored-rise b)
 
   -- and the journal emptied last
-  file-left : (ws : List Write) (d : Disk) → performed (ws ++ (clear ∷ [])) d .file ≡ performed ws d .file
-  unfolding performed
-  file-left ws d = ap (λ (d : Disk). d .file) (performed-append ws (clear ∷ []) d)
-
   back-due : {q last : ℕ} {ws : List Write} → PutsBack n q last ws → (d : Disk) → length (d .file) ≡ 512 * n → (f : List ℕ)
       → map (writeDue f (performed (ws ++ (clear ∷ [])) d .file)) (recoveryDues (storedIn (ws ++ (clear ∷ [])))) ≡ ws ++ (clear ∷ [])
   unfolding recoveryDues
   back-due {ws = ws} b d size f =
       let g = performed ws d .file in
       let last : writeDue f g (due 6 0) ≡ clear = unfold writeDue in refl in
-      rw (file-left ws d, stored-back b, map-append (writeDue f g) (map (due 5) (storedIn ws)), puts-due b d size f, last)
+      rw (file-left ws d, stored-clear ws, map-append (writeDue f g) (map (due 5) (storedIn ws)), puts-due b d size f, last)
 
 -- the dues of recovery write just what it writes, where the pages are taken from the file that it leaves
 pub recovery-writes : (n : ℕ) (d : Disk) (ws : List Write) (f : List ℕ) → recovery n d ≡ restore ws
@@ -130,7 +121,7 @@ told-marked n d ws s s′ e room told =
     let w = recovery-written n d ws e in
     let size = told .size in
     let all : length (take n s′) ≡ n = length-take-le n s′ (omega arith) in
-    let rises : Rises n 0 (storedIn ws) = rw (w .is, stored-back n (w .rising)) (stored-rise n (w .rising)) in
+    let rises : Rises n 0 (storedIn ws) = rw (w .is, stored-clear (w .back)) (stored-rise n (w .rising)) in
     let test : (p : ℕ) → elem p (run 1 n) ≡ true → eqb (getD (take n s′) (p - 1) 0) 1 ≡ elem p (storedIn ws)
     = λ p h.
     let (low, high) = run-elem p 1 n h in

@@ -16,7 +16,7 @@ use Rattle.ledger.specs.Player.{isDigit, pairsOf}
 use Rattle.ledger.proofs.Lists.Tests.{byCases, same-or-not, both, not-true-false}
 use Rattle.ledger.proofs.Lists.Keys.{same-eq}
 use Rattle.model.proofs.Fills.{fill-is}
-use Rattle.journal_model.specs.Recovery.{Line, image, ready, done, malformed, lineSays, lineRead}
+use Rattle.ledger.specs.Journal.Recovery.{Line, image, ready, done, malformed, lineSays, lineRead}
 use Rattle.restore_model.specs.Walks.{hexAt, pageSaid, markSaid, imageSaid, saidIn, imageAt}
 use Rattle.restore_model.proofs.Pairs.{Says, Bad, pairs-read, hex-small, byte-there, page-there}
 

@@ -13,10 +13,10 @@ use lib.Dec.{eqb}
 use borrow.Author.Tests.{ne-eqb}
 use Rattle.ledger.specs.Numbers.{keep, run, headOr}
 use Rattle.ledger.proofs.Lists.Tests.{byCases}
-use Rattle.journal_model.specs.declared.Due.{Due}
-use Rattle.journal_model.specs.Dues.{due, nothing, marked, callDues, recoveryDues, firstOf}
+use Rattle.ledger.specs.declared.Due.{Due}
+use Rattle.ledger.specs.Journal.Dues.{due, nothing, marked, callDues, recoveryDues, firstOf}
 use Rattle.restore_model.specs.Plans.{markedFrom, markedAfter, dueAfter, callFirst, recoveryFirst, dueNext}
-use Rattle.restore_model.specs.Promises.{Follows}
+use Rattle.ledger.specs.Journal.Promises.{Follows}
 
 -- a member of the part of a run that is kept, and those after it
 abbrev After : (ℕ → Bool) → ℕ → ℕ → ℕ → List ℕ → Type 0

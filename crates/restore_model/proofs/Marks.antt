@@ -12,12 +12,12 @@ use Rattle.ledger.specs.Numbers.{sameKey, run}
 use Rattle.ledger.proofs.Lists.Tests.{byCases, same-or-not}
 use Rattle.ledger.proofs.Lists.Members.{run-elem}
 use Rattle.ledger.proofs.Lists.Sieves.{keep-same}
-use Rattle.model.specs.Reads.{pageIn}
-use Rattle.journal_model.specs.Journal.{changed}
-use Rattle.journal_model.specs.Dues.{marked}
+use Rattle.ledger.specs.Bytes.{pageIn}
+use Rattle.ledger.specs.Journal.Writes.{changed}
+use Rattle.ledger.specs.Journal.Dues.{marked}
 use Rattle.restore_model.specs.Texts.{pagesIn, differs}
 use Rattle.restore_model.specs.Plans.{marksFrom, marksOn}
-use Rattle.restore_model.specs.Promises.{Paged, Marks}
+use Rattle.ledger.specs.Journal.Promises.{Paged, Marks}
 use Rattle.restore_model.proofs.Sizes.{paged-pages, pages-paged}
 
 -- pages told one by one: the length stays, and the bytes past them

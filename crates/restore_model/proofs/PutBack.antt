@@ -13,10 +13,10 @@ use Rattle.ledger.specs.Numbers.{elem, part}
 use Rattle.ledger.specs.Player.{pairsOf}
 use Rattle.ledger.proofs.Lists.Tests.{byCases, same-or-not, eqb-same}
 use Rattle.model.specs.Moves.{partPut}
-use Rattle.journal_model.specs.Journal.{Write, append, store, clear, disk, performed}
-use Rattle.journal_model.specs.Recovery.{linesOf, Line, image, ready, lineRead, linesSaid}
+use Rattle.ledger.specs.Journal.Writes.{Write, append, store, clear, disk, performed}
+use Rattle.ledger.specs.Journal.Recovery.{linesOf, Line, image, ready, lineRead, linesSaid}
 use Rattle.restore_model.specs.Walks.{nextImage, pagePut, backFrom}
-use Rattle.restore_model.specs.Promises.{storedIn}
+use Rattle.ledger.specs.Journal.Promises.{storedIn}
 use Rattle.restore_model.proofs.Lines.{image-read, ready-read}
 use Rattle.restore_model.proofs.Steps.{Backs}
 

@@ -13,9 +13,9 @@ use Rattle.ledger.specs.Player.{hexOf}
 use Rattle.ledger.proofs.Lists.Parts.{sets-append}
 use Rattle.ledger.proofs.Lists.Runs.{concatOf-append}
 use Rattle.ledger.proofs.Lists.Digits.{length-digits}
-use Rattle.model.specs.Reads.{pageIn}
+use Rattle.ledger.specs.Bytes.{pageIn}
 use Rattle.frames_model.specs.Texts.{hexPut}
-use Rattle.journal_model.specs.Journal.{line, imageLine, readyLine}
+use Rattle.ledger.specs.Journal.Writes.{line, imageLine, readyLine}
 use Rattle.restore_model.specs.Texts.{digitsPut, imagePut, readyPut}
 
 -- the text's length

@@ -9,14 +9,14 @@ use lib.ListN.{length}
 use lib.Seq.{sets, sets-eq}
 use borrow.Author.Tests.{ne-eqb, lt-ltb, le-ltb}
 use Rattle.ledger.proofs.Lists.Tests.{same-or-not}
-use Rattle.model.specs.Reads.{pageIn}
-use Rattle.journal_model.specs.declared.Due.{Due}
-use Rattle.journal_model.specs.Journal.{imageLine, readyLine, doneLine, append, store, clear}
-use Rattle.journal_model.specs.Dues.{writeDue}
-use Rattle.journal_model.proofs.Places.{page-full}
+use Rattle.ledger.specs.Bytes.{pageIn}
+use Rattle.ledger.specs.declared.Due.{Due}
+use Rattle.ledger.specs.Journal.Writes.{imageLine, readyLine, doneLine, append, store, clear}
+use Rattle.ledger.specs.Journal.Dues.{writeDue}
+use Rattle.journal_laws.proofs.Places.{page-full}
 use Rattle.restore_model.specs.Texts.{digitsPut}
 use Rattle.restore_model.specs.Plans.{donePut, lineOn}
-use Rattle.restore_model.specs.Promises.{PutsLine}
+use Rattle.ledger.specs.Journal.Promises.{PutsLine}
 use Rattle.restore_model.proofs.Puts.{length-line, length-image, line-put, image-put, ready-put}
 use Rattle.restore_model.proofs.Marks.{parts}
 

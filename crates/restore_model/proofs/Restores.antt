@@ -12,12 +12,12 @@ use borrow.Author.Tests.{eq-eqb, ne-eqb, le-ltb, ltb-false}
 use Rattle.ledger.specs.Numbers.{elem}
 use Rattle.ledger.proofs.Lists.Tests.{byCases, same-or-not}
 use Rattle.model.specs.Moves.{partPut}
-use Rattle.journal_model.specs.Journal.{Write, clear, Disk, disk, performed}
-use Rattle.journal_model.specs.Recovery.{Line, Group, finished, imaged, readied, wrong, lastGroup, Recovery, refuse, restore, recoveryOf, recovery}
-use Rattle.journal_model.proofs.Cuts.{performed-append}
+use Rattle.ledger.specs.Journal.Writes.{Write, clear, Disk, disk, performed}
+use Rattle.ledger.specs.Journal.Recovery.{Line, Group, finished, imaged, readied, wrong, lastGroup, Recovery, refuse, restore, recoveryOf, recovery}
+use Rattle.journal_laws.proofs.RecoveryWrites.{stored-clear, file-left}
 use Rattle.restore_model.specs.Texts.{pagesIn}
 use Rattle.restore_model.specs.Walks.{walkOn, untold, restoredOn, answered, recoverOn}
-use Rattle.restore_model.specs.Promises.{Paged, storedIn, Told, Restores}
+use Rattle.ledger.specs.Journal.Promises.{Paged, storedIn, Told, Restores}
 use Rattle.restore_model.proofs.Sizes.{paged-pages, pages-paged}
 use Rattle.restore_model.proofs.Steps.{Backs}
 use Rattle.restore_model.proofs.Walking.{Walked, walk-shows}
@@ -55,14 +55,9 @@ module _ (n : ℕ) (s : List ℕ) (few : n ≤ 128) (room : n ≤ length s) wher
     size = untold-length;
   }
 
-  stored-back : {is : List Line} {ws : List Write} → Backs n is ws → storedIn (ws ++ (clear ∷ [])) ≡ storedIn ws
-  unfolding storedIn
-  stored-back Backs.none = refl
-  stored-back (Backs.next {p = p} low high b) = ap (λ (ps : List ℕ). p ∷ ps) (stored-back b)
-
   back-told : {is : List Line} {ws : List Write} → Backs n is ws → Told n (ws ++ (clear ∷ [])) s (marks ws (untold s n))
-  back-told b = record {
-    each = λ p low high. marks-at n b (untold s n) p low (rw untold-length (omega arith)) ∙ rw (untold-each (p - 1) (omega arith), stored-back b);
+  back-told {ws = ws} b = record {
+    each = λ p low high. marks-at n b (untold s n) p low (rw untold-length (omega arith)) ∙ rw (untold-each (p - 1) (omega arith), stored-clear ws);
     rest = marks-rest n b (untold s n) ∙ untold-rest;
     size = marks-length n b (untold s n) ∙ untold-length;
   }
@@ -79,17 +74,13 @@ module _ (n : ℕ) (f j s : List ℕ) (paged : Paged n f) (room : n ≤ length s
       let some = paged .some in
       rw (paged-pages n f paged, ne-eqb n 0 (λ e. omega arith), le-ltb (length s) n room)
 
-  cleared : (ws : List Write) → performed (ws ++ (clear ∷ [])) (disk f j) .file ≡ performed ws (disk f j) .file
-  unfolding performed
-  cleared ws = ap (λ (d : Disk). d .file) (performed-append ws (clear ∷ []) (disk f j))
-
   comes : (g : Group) → Walked n j (walkOn n j) g → Answers n f j s (recoverOn f j s) (recoveryOf g)
   unfolding restoredOn performed
   comes finished w = (untold s n, sized ∙ rw (w .shown), none-told n s (paged .few) room)
   comes (imaged last back) w = (untold s n, sized ∙ rw (w .shown .0), none-told n s (paged .few) room)
   comes (readied back) w =
       let (is2, is, b, lines) = w .shown in
-      (marks back (untold s n), sized ∙ rw (is2, back-is n j b (length j) (walkOn n j .from) f (untold s n) j _ lines (omega arith), cleared back), back-told n s (paged .few) room b)
+      (marks back (untold s n), sized ∙ rw (is2, back-is n j b (length j) (walkOn n j .from) f (untold s n) j _ lines (omega arith), file-left back (disk f j)), back-told n s (paged .few) room b)
   comes wrong w = sized ∙ rw (w .shown)
 
   recovery-is : recovery n (disk f j) ≡ recoveryOf (lastGroup n j)

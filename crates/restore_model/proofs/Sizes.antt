@@ -9,7 +9,7 @@ use lib.Dec.{eqb, ltb}
 use borrow.Author.Tests.{eqb-true, le-ltb, ltb-false}
 use Rattle.ledger.proofs.Lists.Tests.{byCases}
 use Rattle.restore_model.specs.Texts.{pagesIn}
-use Rattle.restore_model.specs.Promises.{Paged}
+use Rattle.ledger.specs.Journal.Promises.{Paged}
 
 pub paged-pages : (n : ℕ) (f : List ℕ) → Paged n f → pagesIn (length f) ≡ n
 unfolding pagesIn

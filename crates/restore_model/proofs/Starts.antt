@@ -16,12 +16,12 @@ use Rattle.ledger.proofs.Lists.Tests.{byCases, same-or-not}
 use Rattle.ledger.proofs.Lists.Members.{elem-run}
 use Rattle.ledger.proofs.Lists.Sieves.{elem-keep-is}
 use Rattle.ledger.proofs.Lists.Parts.{sets-append}
-use Rattle.model.specs.Reads.{pageIn}
-use Rattle.journal_model.specs.Journal.{imageLine, readyLine, doneLine, append, changed, images, stores, writes, writesOf, Disk, disk, performed}
-use Rattle.journal_model.proofs.Cuts.{performed-append}
-use Rattle.journal_model.proofs.Places.{page-full}
+use Rattle.ledger.specs.Bytes.{pageIn}
+use Rattle.ledger.specs.Journal.Writes.{imageLine, readyLine, doneLine, append, changed, images, stores, writes, writesOf, Disk, disk, performed}
+use Rattle.journal_laws.proofs.Cuts.{performed-append}
+use Rattle.journal_laws.proofs.Places.{page-full}
 use Rattle.restore_model.specs.Texts.{pagesIn, differs, countFrom, countOf, imagePut, changedPut, imagesFrom, startPut, imagesOn}
-use Rattle.restore_model.specs.Promises.{Paged, startOf, startText, Tells, Starts}
+use Rattle.ledger.specs.Journal.Promises.{Paged, startOf, startText, Tells, Starts}
 use Rattle.restore_model.proofs.Sizes.{paged-pages, pages-paged}
 use Rattle.restore_model.proofs.Puts.{length-line, length-image, image-put, ready-put}
 

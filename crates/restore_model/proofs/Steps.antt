@@ -7,8 +7,8 @@ use lib.ListN.{drop}
 use lib.Dec.{ltb}
 use borrow.Author.Tests.{ne-eqb, lt-ltb, le-ltb, ltb-true, ltb-false}
 use Rattle.ledger.proofs.Lists.Tests.{byCases}
-use Rattle.journal_model.specs.Journal.{Write, store}
-use Rattle.journal_model.specs.Recovery.{Line, image, ready, done, malformed, linesSaid, Group, finished, imaged, readied, wrong, nextGroup}
+use Rattle.ledger.specs.Journal.Writes.{Write, store}
+use Rattle.ledger.specs.Journal.Recovery.{Line, image, ready, done, malformed, linesSaid, Group, finished, imaged, readied, wrong, nextGroup}
 use Rattle.restore_model.specs.Walks as walks
 use Rattle.restore_model.proofs.Lines.{numberOf}
 

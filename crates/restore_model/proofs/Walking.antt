@@ -14,7 +14,7 @@ use borrow.Author.Tests.{eq-eqb, ne-eqb, lt-ltb, le-ltb, leb-true, leb-false}
 use Rattle.ledger.specs.Numbers.{all, part}
 use Rattle.ledger.specs.Player.{digitValue, isDigit, pairsOf}
 use Rattle.ledger.proofs.Lists.Tests.{byCases, same-or-not}
-use Rattle.journal_model.specs.Recovery.{linesOf, Line, image, ready, done, malformed, lineRead, linesSaid, Group, finished, nextGroup, groupFrom, lastGroup}
+use Rattle.ledger.specs.Journal.Recovery.{linesOf, Line, image, ready, done, malformed, lineRead, linesSaid, Group, finished, nextGroup, groupFrom, lastGroup}
 use Rattle.restore_model.specs.declared.Walk.{Walk}
 use Rattle.restore_model.specs.Walks as walks
 use Rattle.restore_model.proofs.Lines.{numberOf, said-is, image-read}

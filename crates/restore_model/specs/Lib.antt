@@ -2,4 +2,3 @@
 pub mod Texts
 pub mod Walks
 pub mod Plans
-pub mod Promises

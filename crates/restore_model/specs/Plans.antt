@@ -4,8 +4,8 @@ use mathlib.Core.Bool.{cond}
 use mathlib.Core.List.{List, [], _∷_}
 use lib.ListN.{length, set, drop}
 use lib.Dec.{eqb, ltb}
-use Rattle.journal_model.specs.declared.Due.{Due}
-use Rattle.journal_model.specs.Dues.{due, nothing}
+use Rattle.ledger.specs.declared.Due.{Due}
+use Rattle.ledger.specs.Journal.Dues.{due, nothing}
 use Rattle.restore_model.specs.Texts.{pagesIn, differs, digitsPut, imagePut, readyPut}
 
 -- the lowest page told past i, where `ms` is what s says past it; 0 where there is none

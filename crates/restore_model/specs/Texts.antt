@@ -6,7 +6,7 @@ use mathlib.Core.List.{List, [], _∷_}
 use lib.ListN.{length, set}
 use lib.Dec.{eqb, ltb}
 use Rattle.ledger.specs.Numbers.{sameKey}
-use Rattle.model.specs.Reads.{pageIn}
+use Rattle.ledger.specs.Bytes.{pageIn}
 use Rattle.frames_model.specs.Texts.{hexPut}
 
 -- how many pages k bytes are, 1 to 128; or 0

@@ -11,13 +11,13 @@ use lib.Dec.{eqb}
 use borrow.Author.Tests.{eqb-true, ne-eqb}
 use Rattle.ledger.specs.Numbers.{digits, run, sumOf, concatOf}
 use Rattle.ledger.specs.Pages.{codeOf, used, free, flags, header, packed, page}
-use Rattle.ledger.specs.Bytes.{twoAt, threeAt}
+use Rattle.ledger.specs.Bytes.{twoAt, threeAt, pageStart}
 use Rattle.ledger.proofs.Lists.Tests.{both}
 use Rattle.ledger.proofs.Lists.Members.{no-length}
 use Rattle.ledger.proofs.Lists.Runs.{concatOf-same, sumOf-same}
 use Rattle.ledger.proofs.Lists.Parts.{part-join}
 use Rattle.ledger.proofs.Lists.Digits.{two-part, three-part}
-use Rattle.model.specs.Reads.{pageStart, headNextIn}
+use Rattle.model.specs.Reads.{headNextIn}
 use Rattle.model.specs.Room.{flagsAt}
 use Rattle.audit_model.specs.Scan.{flagOf, linesIn, scanPage, pagePart, recordFrom}
 use Rattle.audit_model.proofs.Scan.Numbers.{number-part, flags-number}

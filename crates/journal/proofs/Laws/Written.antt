@@ -1,5 +1,5 @@
 -- The text of a call: pages counted and compared, digits and lines put.
-use Prim.Native.Nat.{ℕ, zero, suc, _+_, _-_, _/_, _%_, _≤_, _<_}
+use Prim.Native.Nat.{ℕ, zero, suc, _+_, _*_, _-_, _/_, _%_, _≤_, _<_}
 use mathlib.Core.Path.{_≡_, sym, _∙_}
 use mathlib.Core.Bool.{Bool, true, false}
 use mathlib.Core.List.{List}
@@ -8,8 +8,8 @@ use native.Mathlib.Numerals.{add-one}
 use borrow.Author.Tests.{eq-eqb, ne-eqb, lt-ltb, le-ltb}
 use lib.ListN.{length, getD, drop, drop-of-length-le}
 use lib.Seq.{drop-cons}
-use Rattle.ledger.specs.Numbers.{sameKey}
-use Rattle.model.specs.Reads.{pageIn}
+use Rattle.ledger.specs.Numbers.{part, sameKey}
+use Rattle.ledger.specs.Bytes.{pageIn}
 use Rattle.frames_model.specs.Texts.{hexPut}
 use Rattle.restore_model.specs.Texts.{pagesIn, differs, countFrom, digitsPut, changedPut, imagePut, imagesFrom, readyPut, startPut}
 
@@ -30,6 +30,21 @@ module _ (k : ℕ) where
   pub pages-right : k % 512 ≡ 0 → k / 512 ≤ 128 → k / 512 ≡ pagesIn k
   unfolding pagesIn
   pages-right e h = rw (eq-eqb (k % 512) 0 e, le-ltb 128 (k / 512) h)
+
+-- page_in
+module _ (f a : List ℕ) (p : ℕ) where
+  pub page-zero : p ≡ 0 → a ≡ part 0 0 f → a ≡ pageIn f p
+  unfolding pageIn
+  page-zero e ea = rw (eq-eqb p 0 e) ea
+
+  module _ (n : p ≡ 0 → ⊥) where
+    pub page-past : length f / 512 < p - 1 → a ≡ part 0 0 f → a ≡ pageIn f p
+    unfolding pageIn
+    page-past h ea = let g : length f ≤ 512 * (p - 1) = omega arith in rw (ne-eqb p 0 n, drop-of-length-le f g) ea
+
+    pub page-some : a ≡ part (512 * (p - 1)) 512 f → a ≡ pageIn f p
+    unfolding pageIn
+    page-some ea = rw (ne-eqb p 0 n) ea
 
 -- differs
 module _ (f g a b : List ℕ) (p : ℕ) (ea : a ≡ pageIn f p) (eb : b ≡ pageIn g p) (s : Bool) (es : s ≡ sameKey a b) where

@@ -11,12 +11,11 @@ use Rattle.ledger.specs.declared.Currency.{Currency}
 use Rattle.ledger.specs.Numbers.{run, firstOf}
 use Rattle.ledger.specs.Table.{row, class, low, high, via, calcKey}
 use Rattle.ledger.specs.Pages.{calcAt, linkAt, recordSize, home}
-use Rattle.ledger.specs.Bytes.{twoAt}
+use Rattle.ledger.specs.Bytes.{twoAt, pageIn}
 use Rattle.ledger.specs.Currency.{typeCurrent}
 use Rattle.ledger.specs.Calls.{tried}
 use Rattle.ledger.proofs.Lists.Tests.{byCases, clash}
 use Rattle.model.specs.declared.Gap.{Gap}
-use Rattle.model.specs.Reads.{pageIn}
 use Rattle.model.specs.Room.{firstGap}
 use Rattle.act_model.specs.Placing.{occurrenceIn, inRange, basePageIn, takesIn, placeForIn}
 

@@ -12,7 +12,7 @@ use Rattle.ledger.specs.Pages.{recordSize, home}
 use Rattle.model.specs.declared.Gap.{Gap}
 use Rattle.model.specs.declared.Between.{Between}
 use Rattle.model.specs.declared.Places.{Places}
-use Rattle.model.specs.Reads.{pageIn}
+use Rattle.ledger.specs.Bytes.{pageIn}
 use Rattle.model.specs.Room.{firstGap}
 use Rattle.model.specs.Writes.{linkedIn}
 use Rattle.model.specs.Moves.{putIn}

@@ -13,7 +13,7 @@ put-image-spec =
     (λ c. search needs)  -- slice-aggregate-put-digits
     (λ c κs. search needs)  -- put-digits-requires
     (λ c. search needs)  -- add-put-digits
-    (λ c κs. search needs)  -- page-of-requires
+    (λ c κs. search needs)  -- page-in-requires
     (λ c κs. search needs)  -- put-digits-requires-2
     (λ c. search needs)  -- add-put-byte
     (λ c κs. search needs)  -- put-byte-requires

@@ -1,5 +1,5 @@
 use borrow.Author.Needs.{needs}
-use Rattle.model.specs.Reads.{pageIn}
+use Rattle.ledger.specs.Bytes.{pageIn}
 use Rattle.page.proofs.Laws.Tests.{when-zero, when-some}
 use Rattle.page.proofs.room.page_of.Statement.{statement}
 use Rattle.page.proofs.room.page_of.Tie as tie
