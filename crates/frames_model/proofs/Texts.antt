@@ -16,6 +16,7 @@ use Rattle.ledger.specs.Numbers.{digits, keep, concatOf}
 use Rattle.ledger.specs.Rules.{between}
 use Rattle.ledger.specs.Player.{digitValue, isDigit, pairsOf, frameOf, hexOf, printed}
 use Rattle.ledger.proofs.Lists.Tests.{byCases, both}
+use Rattle.ledger.proofs.Lists.Parts.{sets-append}
 use Rattle.ledger.proofs.Lists.Runs.{concatOf-append}
 use Rattle.frames_model.specs.declared.Reading.{Reading}
 use Rattle.frames_model.specs.declared.Decoded.{Decoded}
@@ -26,14 +27,8 @@ pub text-put : (out s : List ℕ) → length s ≤ length out → textPut out s 
 unfolding textPut
 text-put out s h = rw (sets-eq s out 0 (omega arith), zero-add)
 
--- one text after another
-sets-append : (u v out : List ℕ) (i : ℕ) → sets out i (u ++ v) ≡ sets (sets out i u) (i + length u) v
-sets-append [] v out i = rw (add-zero i)
-sets-append (x ∷ u) v out i =
-    let e : i + suc (length u) ≡ suc i + length u = omega arith in
-    rw e (sets-append u v (set out i x) (suc i))
-
-length-hex : (bs : List ℕ) → length (hexOf bs) ≡ 2 * length bs
+-- the digits of bytes
+pub length-hex : (bs : List ℕ) → length (hexOf bs) ≡ 2 * length bs
 unfolding hexOf concatOf
 length-hex [] = refl
 length-hex (b ∷ bs) = omega (arith, length-hex bs)
@@ -69,8 +64,8 @@ line-put out o p a bs end eo ep =
     let q : _≡_ {A = ℕ × List ℕ} (16 + length v, sets (sets out 0 u) 16 v) (end, p) = sym (data-put 200 16 bs (sets out 0 u) refl) ∙ rw (← answer-put out a, eo) ep in
     let long : length (hexOf (headOf a)) ≡ 16 = length-hex (headOf a) ∙ (unfold digits in refl) in
     let size : length (u ++ v) ≡ end = length-append u v ∙ rw long (ap (λ (r : ℕ × List ℕ). r .0) q) in
-    let text : sets out 0 (u ++ v) ≡ p = sets-append u v out 0 ∙ rw (zero-add, long) (ap (λ (r : ℕ × List ℕ). r .1) q) in
-    rw (whole, sets-append (u ++ v) (10 ∷ []) out 0, length-append (u ++ v) (10 ∷ []), text, zero-add, size)
+    let text : sets out 0 (u ++ v) ≡ p = sets-append out 0 u v ∙ rw (zero-add, long) (ap (λ (r : ℕ × List ℕ). r .1) q) in
+    rw (whole, sets-append out 0 (u ++ v) (10 ∷ []), length-append (u ++ v) (10 ∷ []), text, zero-add, size)
 
 -- for an output that has room, and data of at most 200 bytes: the line stands at its front, and the rest of it stays
 pub line-stands : (out : List ℕ) (a : Answer) (bs : List ℕ) → length bs ≤ 200 → 17 + 2 * length bs ≤ length out

@@ -11,3 +11,4 @@ pub mod Restart
 pub mod Order
 pub mod Dues
 pub mod RecoveryWrites
+pub mod Loops

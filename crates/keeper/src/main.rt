@@ -18,7 +18,6 @@ use lines::feed;
 use lines::format;
 use lines::line;
 use page::bytes;
-use table::keys;
 
 // The largest file, how many bytes come in at once, and more than a journal of keeper's has.
 const FILE: usize = 65536;
@@ -296,8 +295,8 @@ fn are_two(name: &[u8], journal_name: &[u8]) -> bool {
         says::wrong(name, b"the name is too long");
         return false;
     }
-    if keys::same_key(name, journal_name) {
-        says::wrong(name, b"the data file and its journal are two files");
+    if names::is_of(name, journal_name) {
+        says::wrong(journal_name, b"the journal is a file of its own");
         return false;
     }
     true

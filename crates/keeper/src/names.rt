@@ -1,6 +1,7 @@
 // The names that belong to a data file: those of the files beside it, and its folder's.
 use change::copies;
 use page::bytes;
+use table::keys;
 
 // The longest name of a data file: an ending and a path's last 0 fit behind it.
 pub const LONGEST: usize = 4000;
@@ -22,6 +23,21 @@ pub(crate) fn of_table(name: &[u8], path: &mut [u8]) -> usize {
 // The name of the table of a new data file that is being put in place.
 pub(crate) fn of_next(name: &[u8], path: &mut [u8]) -> usize {
     beside(name, b".next", path)
+}
+
+// Whether `other` is the name of the data file, or one of those that belong to it.
+pub(crate) fn is_of(name: &[u8], other: &[u8]) -> bool {
+    let mut table = io::buffer();
+    let n = of_table(name, &mut table);
+    let mut next = io::buffer();
+    let m = of_next(name, &mut next);
+    if keys::same_key(bytes::part_of(&table, 0, n), other) {
+        return true;
+    }
+    if keys::same_key(bytes::part_of(&next, 0, m), other) {
+        return true;
+    }
+    keys::same_key(name, other)
 }
 
 // How much of a name is its folder's, with the last slash.

@@ -26,11 +26,11 @@ struct Found {
     line: usize,
 }
 
-// The first byte of every journal: the highest digit of a page number.
+// The first two bytes of every journal, as far as it goes: the high digits of a page number.
 const ZERO: u8 = 48;
 
-// A line and its line end.
-const KEPT: usize = 1101;
+// A byte more than the longest line and its line end, so that a longer text is known.
+const KEPT: usize = 1102;
 
 // Nothing to go on with.
 fn stopped(d: Disk) -> Opened {
@@ -58,18 +58,26 @@ fn is_journal(name: &[u8], read: &[u8], room: usize) -> bool {
         says::wrong(name, b"longer than any journal of keeper's");
         return false;
     }
-    if read.len() == 0 {
-        return true;
-    }
-    if read[0] != ZERO {
+    if !begins_one(read, 0) || !begins_one(read, 1) {
         says::wrong(name, b"not a journal");
         return false;
     }
     true
 }
 
-// The length of the line that is all of a text, with its line end; 0 where it is not whole.
+// Whether byte `i` can be that of a journal's beginning.
+fn begins_one(read: &[u8], i: usize) -> bool {
+    if read.len() <= i {
+        return true;
+    }
+    read[i] == ZERO
+}
+
+// The length of the line that is all of a text, with its line end; 0 where it is not whole, and all of it where it is longer than any.
 fn line_in(text: &[u8], n: usize) -> usize {
+    if text.len() <= n {
+        return n;
+    }
     if n == 0 {
         return 0;
     }
@@ -79,26 +87,35 @@ fn line_in(text: &[u8], n: usize) -> usize {
     n - 1
 }
 
-// Reads a file of one line.
+// A file that is missing, or that could not be read.
+fn none_found(path: &[u8], is_new: bool) -> Found {
+    let there = os::errno() != libc::ENOENT;
+    if there {
+        says::refused(path);
+    }
+    Found {
+        there,
+        barred: there,
+        is_new,
+        line: 0,
+    }
+}
+
+// Reads a file of one line, and waits until what was read is on the disk: a run that was killed may not have.
 fn read_line(path: &[u8], text: &mut [u8], is_new: bool) -> Found {
     let fd = os::open_read(path);
     if fd < 0 {
-        let there = os::errno() != libc::ENOENT;
-        if there {
-            says::refused(path);
-        }
-        return Found {
-            there,
-            barred: there,
-            is_new,
-            line: 0,
-        };
+        return none_found(path, is_new);
     }
     let n = io::read_full(fd, text);
+    let synced = disk::sync(fd);
+    if !synced {
+        says::refused(path);
+    }
     libc::close(fd);
     Found {
         there: true,
-        barred: false,
+        barred: !synced,
         is_new,
         line: line_in(text, n),
     }
@@ -280,21 +297,15 @@ fn open_files(
     Opened { session, disk }
 }
 
-// Opens the journal and the data file, or begins with none.
-pub(crate) fn open(
+// Reads the journal that was opened, and opens the rest.
+fn open_rest(
     name: &[u8],
     journal_name: &[u8],
     table: &mut [u16],
     file: &mut [u8],
     room: &mut [u8],
+    d: Disk,
 ) -> Opened {
-    let d = Disk {
-        data: -1,
-        journal: open_journal(journal_name),
-        size: 0,
-        written: 0,
-        good: true,
-    };
     if d.journal < 0 {
         says::refused(journal_name);
         return stopped(d);
@@ -305,4 +316,38 @@ pub(crate) fn open(
         return stopped(d);
     }
     open_files(name, journal_name, table, file, text, d)
+}
+
+// Opens the journal and the data file, or begins with none. First it waits until the names that are there are on the disk: a run that was killed
+// may not have.
+pub(crate) fn open(
+    name: &[u8],
+    journal_name: &[u8],
+    table: &mut [u16],
+    file: &mut [u8],
+    room: &mut [u8],
+) -> Opened {
+    let none = Disk {
+        data: -1,
+        journal: -1,
+        size: 0,
+        written: 0,
+        good: true,
+    };
+    if !names::sync_folder(name) {
+        says::refused(name);
+        return stopped(none);
+    }
+    if !names::sync_folder(journal_name) {
+        says::refused(journal_name);
+        return stopped(none);
+    }
+    let d = Disk {
+        data: -1,
+        journal: open_journal(journal_name),
+        size: 0,
+        written: 0,
+        good: true,
+    };
+    open_rest(name, journal_name, table, file, room, d)
 }

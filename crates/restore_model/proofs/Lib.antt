@@ -13,3 +13,4 @@ pub mod Marks
 pub mod PutsLine
 pub mod Both
 pub mod Dues
+pub mod Kept

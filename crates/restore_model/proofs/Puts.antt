@@ -15,15 +15,11 @@ use Rattle.ledger.proofs.Lists.Runs.{concatOf-append}
 use Rattle.ledger.proofs.Lists.Digits.{length-digits}
 use Rattle.ledger.specs.Bytes.{pageIn}
 use Rattle.frames_model.specs.Texts.{hexPut}
+use Rattle.frames_model.proofs.Texts.{length-hex}
 use Rattle.ledger.specs.Journal.Writes.{line, imageLine, readyLine}
 use Rattle.restore_model.specs.Texts.{digitsPut, imagePut, readyPut}
 
 -- the text's length
-length-hex : (bs : List ℕ) → length (hexOf bs) ≡ 2 * length bs
-unfolding hexOf concatOf
-length-hex [] = refl
-length-hex (b ∷ bs) = omega (arith, length-hex bs)
-
 pub length-line : (bs : List ℕ) → length (line bs) ≡ 2 * length bs + 1
 unfolding line
 length-line bs = length-append (hexOf bs) (10 ∷ []) ∙ omega (arith, length-hex bs)

@@ -9,7 +9,7 @@ use Rattle.ledger.specs.Numbers.{elem}
 use Rattle.ledger.specs.Journal.Writes.{readyLine, Write, append, store, clear, changed, images, disk, performed}
 use Rattle.ledger.specs.Journal.Recovery.{refuse, restore, recovery}
 use Rattle.ledger.specs.declared.Due.{Due}
-use Rattle.ledger.specs.Journal.Dues.{marked, callDues, recoveryDues, firstOf, writeDue}
+use Rattle.ledger.specs.Journal.Dues.{nothing, marked, callDues, recoveryDues, firstOf, writeDue}
 
 -- a file of 1 to 128 pages
 pub record Paged (n : ℕ) (f : List ℕ) : Type 0 where
@@ -68,6 +68,11 @@ pub record Marks (f f′ s : List ℕ) (r : ℕ) (s′ : List ℕ) : Type 0 wher
 pub record Follows (s : List ℕ) (d r : Due) : Type 0 where
   pub in-call : (ds es : List Due) → callDues (marked s) ≡ ds ++ (d ∷ es) → r ≡ firstOf es
   pub in-recovery : (ds es : List Due) → recoveryDues (marked s) ≡ ds ++ (d ∷ es) → r ≡ firstOf es
+
+-- what a loop performs that begins with d, goes on with what follows, and ends where nothing is due
+pub data Performs (s : List ℕ) : Due → List Due → Type 0 where
+  ends : Performs s nothing []
+  goes : {d r : Due} {ds : List Due} → d ≢ nothing → Follows s d r → Performs s r ds → Performs s d (d ∷ ds)
 
 -- put_line: the line that is due, with its line end, stands at the front of `out`, and the rest stays; 0 and nothing written where a store is due,
 -- or nothing, where the page is none of the file, or where there is no room
