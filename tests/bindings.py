@@ -1,14 +1,16 @@
 """Compiles and runs the bindings' examples in Rust, Python and C, and compares what they print with bindings/example.txt.
 
-The three play one session with every call by name. Also, the refusals have the same words in all three.
+The three play one session with every call by name. Also, the refusals have the same words in all three. The example in C on real
+files goes on over several starts, one of them after a call that was cut before its done line.
 
-    python3 tests/bindings.py          # needs target/staticlib/libgerunjap.a, cargo and gcc
+    python3 tests/bindings.py          # needs libgerunjap.a and libjournal.a in target/staticlib, cargo and gcc
 """
 
 import difflib
 import pathlib
 import subprocess
 import sys
+import tempfile
 
 ROOT = pathlib.Path(__file__).resolve().parent.parent
 BINDINGS = ROOT / "bindings"
@@ -17,8 +19,9 @@ sys.path.insert(0, str(BINDINGS / "python"))
 import gerunjap  # noqa: E402
 
 COMPILED = ROOT / "target/example"
-COMPILE = ["gcc", "-std=c11", "-O2", "-Wall", "-Wextra", "-Werror", "-I", BINDINGS / "c", "-o", COMPILED,
-           BINDINGS / "c/example.c", ROOT / "target/staticlib/libgerunjap.a"]
+COMPILE = ["gcc", "-std=c11", "-O2", "-Wall", "-Wextra", "-Werror", "-I", BINDINGS / "c", "-o"]
+LIBRARY, JOURNAL = ROOT / "target/staticlib/libgerunjap.a", ROOT / "target/staticlib/libjournal.a"
+KEPT = ROOT / "target/kept"
 RUNS = {
     "Rust": ["cargo", "run", "--quiet", "--offline", "--manifest-path", BINDINGS / "rust/Cargo.toml", "--example", "lab"],
     "Python": [sys.executable, BINDINGS / "python/example.py"],
@@ -46,13 +49,24 @@ def other_words(path):
     return lacking
 
 
+def kept_differs():
+    """Whether the example on real files tells anything else than it should, start by start."""
+    with tempfile.TemporaryDirectory() as folder:
+        data, journal = pathlib.Path(folder) / "data", pathlib.Path(folder) / "journal"
+        bad = [count for count in (1, 2, 3) if differs("kept", [KEPT, data, journal], f"stored\n{count} captures\n")]
+        journal.write_bytes(journal.read_bytes().removesuffix(b"FFFF\n"))
+        return bad or differs("kept, cut before its done line", [KEPT, data, journal], "stored\n3 captures\n")
+
+
 def main():
     """Runs all, and tells."""
-    subprocess.run(COMPILE, check=True)
+    subprocess.run([*COMPILE, COMPILED, BINDINGS / "c/example.c", LIBRARY], check=True)
+    subprocess.run([*COMPILE, KEPT, BINDINGS / "c/kept.c", LIBRARY, JOURNAL], check=True)
     expected = (BINDINGS / "example.txt").read_text()
     bad = [name for name, command in RUNS.items() if differs(name, command, expected)]
+    bad += ["kept"] if kept_differs() else []
     bad += [path.name for path in WORDED if other_words(path)]
-    print(f"bindings: {len(RUNS)} examples of {len(expected.splitlines())} lines, "
+    print(f"bindings: {len(RUNS)} examples of {len(expected.splitlines())} lines, one on real files, "
           + (f"different: {', '.join(bad)}" if bad else "no difference"))
     sys.exit(1 if bad else 0)
 

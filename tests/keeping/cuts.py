@@ -14,7 +14,7 @@ from .game import DATA, JOURNAL, NEXT, Game, due, format_line, small_table, writ
 DISKS, CALLS, PAGE_COUNTS = 1500, 12, (1, 3, 2)
 AGAIN, AGAIN_PLAIN, GOES_ON = 0.6, 0.04, 0.015
 # The journal is emptied when a call leaves it longer than this.
-LONG = 262144
+LONG = 65536
 
 
 class Logged(NamedTuple):

@@ -32,7 +32,7 @@ def bad_journals(rng, files, lines):
     return {
         "of other bytes": b"\x7FELF" + rng.randbytes(2000), "the data file": files[DATA], "another text": b"not" + files[TABLE],
         "of bytes that begin well": b"0" + rng.randbytes(600) + b"\n" + rng.randbytes(9), "an empty line": b"\n",
-        "too long": whole * (524288 // len(whole) + 1), "an image too short": image[:-3] + b"\n" + ready,
+        "too long": whole * (262144 // len(whole) + 1), "an image too short": image[:-3] + b"\n" + ready,
         "an image too long": image[:-1] + b"00\n", "an odd digit": image[:-2] + b"\n", "no digit": image[:-2] + b"G\n",
         "a carriage return": image + b"0000\r\n", "a space": image + b"0000 \n", "another line": image + b"0001\n",
         "a ready without image": ready, "a second ready": image + ready + ready, "ready after done": image + ready + done + ready,

@@ -24,7 +24,7 @@ const FILE: usize = 65536;
 
 const BLOCK: usize = 4096;
 
-const JOURNAL: usize = 524288;
+const JOURNAL: usize = 262144;
 
 const ZERO: u8 = 48;
 

@@ -9,7 +9,7 @@ use page::bytes;
 const LINE: usize = 1029;
 
 // The journal is emptied when a call leaves it longer than this.
-const LONG: usize = 262144;
+const LONG: usize = 65536;
 
 // More turns than any call or recovery has writes: two for each of 128 pages, ready and done.
 const TURNS: u16 = 300;
