@@ -1,6 +1,6 @@
-"""Tests of tools/ids: definitions and words, each rule's error, sessions by name, show and draw.
+"""Tests of tools/ids: definitions and words, each rule's error, sessions by name, show and draw, and real files through keeper.
 
-    python3 tests/tools.py [--player PROGRAM] [--library LIB.so]
+    python3 tests/tools.py [--player PROGRAM] [--keeper PROGRAM] [--library LIB.so]
 """
 
 import argparse
@@ -369,10 +369,27 @@ def test_command(player, library):
             same(f"{asked[0]} tells trouble in a line", (code, error.startswith("ids: "), "Traceback" in error), (1, True, False))
 
 
+def test_kept(player, keeper):
+    """Sessions through keeper: as by the player, gone on with after a new start, and never under another definition."""
+    lab, lesson = LESSONS / "lab.def", LESSONS / "1-occurrence.play"
+    with tempfile.TemporaryDirectory() as folder:
+        on = ("--on", f"{folder}/lab.data", f"{folder}/lab.journal", "--keeper")
+        same("a session on real files", ids("play", lab, lesson, *on, keeper), ids("play", lab, lesson, "--player", player))
+        code, told, _ = ids("play", lab, *on, keeper, given="each 1 8255\nread\n")
+        same("the session gone on with", (code, told.count("name=R1")), (0, 1))
+        code, _, error = ids("play", LESSONS / "orders.def", *on, keeper, given="read\n")
+        same("another definition", (code, error), (1, f"ids: {folder}/lab.data was made under another definition\n"))
+        code, _, error = ids("play", lab, "--on", f"{folder}/lab.data", f"{folder}/lab.data", "--keeper", keeper, given="read\n")
+        same("what keeper says", (code, error.startswith("ids: keeper: ")), (1, True))
+        code, _, error = ids("play", lab, *on, f"{folder}/none", given="read\n")
+        same("no keeper", (code, error.startswith("ids: keeper "), "Traceback" in error), (1, True, False))
+
+
 def main():
     """All tests, and one line."""
     options = argparse.ArgumentParser(description=__doc__.split("\n")[0])
     options.add_argument("--player", default=engines.PLAYER)
+    options.add_argument("--keeper", default=engines.KEEPER)
     options.add_argument("--library", default="")
     asked = options.parse_args()
     rng = random.Random(9)
@@ -384,6 +401,7 @@ def main():
     test_show(asked.library)
     test_draw(asked.library, rng)
     test_command(asked.player, asked.library)
+    test_kept(asked.player, asked.keeper)
     print(f"tools: {len(RULES)} rules, {len(EDITS) + len(WORDS)} ways to break them, {len(CALLS.splitlines())} calls by name, "
           "files shown and drawn: as they should be")
 

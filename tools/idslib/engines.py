@@ -1,4 +1,4 @@
-"""What plays frames: the player as a subprocess, or the C library over lent memory."""
+"""What plays frames: the player or keeper as a subprocess, or the C library over lent memory."""
 
 import ctypes
 import pathlib
@@ -9,6 +9,7 @@ from idslib.rules import Trouble
 
 ROOT = pathlib.Path(__file__).resolve().parent.parent.parent
 PLAYER = ROOT / "target/bin/player"
+KEEPER = ROOT / "target/bin/keeper"
 ARCHIVE = ROOT / "target/staticlib/libgerunjap.a"
 ENTRIES, OUTPUT, PAGE = 33, 200, 512
 
@@ -38,6 +39,43 @@ class Player:
         except subprocess.CalledProcessError as error:
             raise Trouble(f"the player ended with {error.returncode}") from None
         return done.stdout.splitlines()
+
+
+class Keeper:
+    """The program keeper on real files: each answer is on the disk. A data file that is not there is made under the words."""
+
+    def __init__(self, program, data, journal, words, format_frame):
+        pipe = subprocess.PIPE
+        try:
+            self.process = subprocess.Popen([str(program), data, journal], stdin=pipe, stdout=pipe, stderr=pipe, text=True)
+        except OSError as error:
+            raise Trouble(f"keeper {program} cannot be run ({error.strerror}); 'rt check keeper' builds it") from None
+        # Before there is a table even a READ is refused with 1.
+        if self.one("0A").startswith("01"):
+            self.one(format_frame)
+        kept = bytes.fromhex(pathlib.Path(data + ".table").read_text(encoding="ascii"))[1:]
+        if kept != b"".join(word.to_bytes(2, "big") for word in words):
+            raise Trouble(f"{data} was made under another definition")
+
+    def ask(self, frames):
+        """The answers to these frames, one at a time."""
+        return [self.one(frame) for frame in frames]
+
+    def one(self, frame):
+        """The answer to one frame."""
+        try:
+            self.process.stdin.write(frame + "\n")
+            self.process.stdin.flush()
+        except BrokenPipeError:
+            pass
+        told = self.process.stdout.readline()
+        if not told:
+            raise Trouble(self.process.communicate()[1].strip() or "keeper ended")
+        return told.rstrip("\n")
+
+    def close(self):
+        """Lets keeper end, and waits for it."""
+        self.process.communicate()
 
 
 class Library:

@@ -12,3 +12,4 @@ pub mod Order
 pub mod Dues
 pub mod RecoveryWrites
 pub mod Loops
+pub mod Fresh

@@ -5,5 +5,6 @@ pub mod Recovery
 pub mod Order
 pub mod Survival
 pub mod Dues
+pub mod Fresh
 pub mod Promises
 pub mod Examples
