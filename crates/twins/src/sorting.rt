@@ -101,6 +101,9 @@ pub fn sort(table: &[u16], file: &[u8], list: &mut [u16], scratch: &mut [u16], l
     if level == 0 {
         return;
     }
+    if list.len() < 2 {
+        return;
+    }
     let h = list.len() / 2;
     sort(table, file, &mut list[0..h], scratch, level - 1);
     sort(table, file, &mut list[h..], scratch, level - 1);

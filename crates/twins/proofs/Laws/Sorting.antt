@@ -10,7 +10,9 @@ use lib.ListN.{length, take, drop, getD, set, drop-of-length-le, length-set, len
 use lib.Seq.{drop-cons, drop-drop, getD-drop, take-all, take-at, drop-at, take-length, drop-length, length-take-le, take-suc-set, append-snoc}
 use borrow.Author.Tests.{lt-ltb, le-ltb}
 use borrow.Rule.Slice.PartMut.{putMid}
+use lib.Dec.{ltb}
 use Rattle.ledger.specs.Numbers.{lessKey}
+use Rattle.ledger.proofs.Lists.Tests.{byCases}
 use Rattle.ledger.specs.Bytes.{twoAt}
 use Rattle.audit_model.specs.Sorting.{keyFrom, goesBefore, secondFirst, takesSecond, merged, fitted, half, halvesMerged, sorted}
 use Rattle.audit_model.proofs.Sorts.{length-merged, fitted-front, length-sorted}
@@ -117,11 +119,23 @@ module _ (less : ℕ → ℕ → Bool) (l s : List ℕ) where
       let n : length g ≡ length l = rw (← eg′) (length-merged less (length l) _ _) in
       rw (le-ltb (length s) (length l) h, eg′, ← ex, ← n) (sym (fitted-front g _))
 
+-- a list of one number, or none, is sorted
+sorted-short : (less : ℕ → ℕ → Bool) (room level : ℕ) (l : List ℕ) → length l < 2 → sorted less room level l ≡ l
+unfolding sorted halvesMerged half merged secondFirst
+sorted-short less room zero l h = refl
+sorted-short less room (suc level) [] h = rw (sorted-short less room level [] (omega arith)) (byCases (ltb room 0) (λ e. rw e) (λ e. rw e))
+sorted-short less room (suc level) (x ∷ []) h =
+    rw (sorted-short less room level [] (omega arith), sorted-short less room level (x ∷ []) (omega arith)) (byCases (ltb room 1) (λ e. rw e) (λ e. rw e))
+sorted-short less room (suc level) (x ∷ y ∷ l) h = absurd (omega arith)
+
 -- sort: `a` and `b` are what the halves are sorted to, `s1` and `s2` the scratch list after each
 module _ (less : ℕ → ℕ → Bool) (l s : List ℕ) where
   pub sort-none : (level : ℕ) → level ≡ 0 → sorted less (length s) level l ≡ l
   unfolding sorted
   sort-none level e = rw e
+
+  pub sort-one : (level : ℕ) → length l < 2 → sorted less (length s) level l ≡ l
+  sort-one level h = sorted-short less (length s) level l h
 
   halves-back : (h : ℕ) (a b : List ℕ) → h ≤ length l → length a ≡ h
       → (take (length (a ++ drop h l) - h) (drop h (a ++ drop h l)) ≡ drop h l)

@@ -1,5 +1,5 @@
 use borrow.Author.Needs.{needs}
-use Rattle.twins.proofs.Laws.Sorting.{sort-none, sort-halves}
+use Rattle.twins.proofs.Laws.Sorting.{sort-none, sort-one, sort-halves}
 use Prim.Native.Nat.{ℕ, _<_}
 use borrow.Fn.Kinds.{In}
 use borrow.Fn.PlainCycle.{Measures, is, falls, and}
@@ -29,6 +29,7 @@ pub +sort-spec : {M : Type 1} → statement M
     (sort-at t)
     sort.Post
     (λ c. search (sort-none, needs))  -- sort-returns
+    (λ c. search (sort-one, needs))  -- sort-returns-2
     (λ c. search needs)  -- sort-sub-sort
     (λ c. search needs)  -- sort-part-sort-start
     (λ c. search needs)  -- sort-part-sort-end
@@ -43,4 +44,4 @@ pub +sort-spec : {M : Type 1} → statement M
     (λ c κs. search needs)  -- sort-merge-halves-requires
     (λ c. search needs)  -- sort-same-length
     (λ c. search needs)  -- sort-same-length-2
-    (λ c. search (sort-halves, needs))  -- sort-returns-2
+    (λ c. search (sort-halves, needs))  -- sort-returns-3
