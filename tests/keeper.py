@@ -72,8 +72,10 @@ def main():
     different = []
     # In memory, where there is such a folder: the test knows what a disk would have, and need not wait for one.
     with tempfile.TemporaryDirectory(dir=MEMORY if os.path.isdir(MEMORY) else None) as folder:
-        keeper = Keeper(asked.keeper, pathlib.Path(folder), random.Random(asked.seed))
+        keeper = Keeper(asked.keeper, pathlib.Path(folder), random.Random())
         for part, *arguments in ((answers,), (messages,), (kills, asked.kills), (power_cuts,), (cuts_after_kills,)):
+            # The kills come when they come; the other parts are the same for a seed.
+            keeper.rng = random.Random(f"{asked.seed} {part.__name__}")
             try:
                 part(keeper, *arguments)
             except Difference as difference:
