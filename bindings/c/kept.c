@@ -3,6 +3,7 @@
    ./kept lab.data lab.journal */
 #define _POSIX_C_SOURCE 200809L
 #include <fcntl.h>
+#include <libgen.h>
 #include <stdio.h>
 #include <stdlib.h>
 #include <string.h>
@@ -37,6 +38,15 @@ static void store(int page) {
 
 static void empty(void) {
     need(ftruncate(journal, 0) == 0 && lseek(journal, 0, SEEK_SET) == 0 && fdatasync(journal) == 0, "journal");
+}
+
+/* Waits until a name that may be new is on the disk: a journal that is gone after a loss of power recovers nothing. */
+static void named(const char *name) {
+    char *copy = strdup(name);
+    int folder = open(dirname(copy), O_RDONLY);
+    need(folder >= 0 && fsync(folder) == 0, name);
+    close(folder);
+    free(copy);
 }
 
 /* A call on the file in memory; whether it is done. */
@@ -82,6 +92,8 @@ int main(int count, char **names) {
     data = open(names[1], O_RDWR | O_CREAT, 0666);
     journal = open(names[2], O_RDWR | O_CREAT, 0666);
     need(data >= 0 && journal >= 0, "files");
+    named(names[1]);
+    named(names[2]);
     if (read(data, file, sizeof file) == (ssize_t)sizeof file) {
         recover();
     } else { /* no file yet, or its first writing was cut: nothing was answered then */
