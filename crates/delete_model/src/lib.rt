@@ -1,1 +1,2 @@
 // What a deletion computes on bytes: definitions, no code.
+#![tactic(auto)]

@@ -1,4 +1,6 @@
 // DELETE: the record and every detail below it are marked, then entries back up, rings close, and pages close up.
+#![tactic(auto)]
+
 pub mod closing;
 
 ghost use Rattle.std.specs.Prelude.{◌≡◌};

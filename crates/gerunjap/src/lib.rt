@@ -1,4 +1,6 @@
 // The C interface: one call on lent memory.
+#![tactic(auto)]
+
 ghost use Rattle.std.specs.Prelude.{◌≡◌, get_or};
 ghost use Rattle.ledger.specs.Interface.{Lends};
 ghost use Rattle.model.specs.Moves.{part_put};

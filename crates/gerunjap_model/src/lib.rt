@@ -1,1 +1,2 @@
 // What the C interface does to lent memory: definitions, no code.
+#![tactic(auto)]

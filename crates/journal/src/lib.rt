@@ -1,4 +1,6 @@
 // The journal for power loss, over lent memory: the text that a call writes before it changes the file, and recovery from a journal.
+#![tactic(auto)]
+
 pub mod back;
 pub mod text;
 pub mod walk;

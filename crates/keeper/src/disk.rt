@@ -2,7 +2,7 @@
 use page::room;
 
 // The descriptors (data -1 before there is a data file), the data file's size and the journal's length; `good` until a write fails.
-#[derive(Drop)]
+#[derive(Clone, Copy)]
 pub struct Disk {
     pub data: i32,
     pub journal: i32,

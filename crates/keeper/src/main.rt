@@ -1,4 +1,6 @@
 // The keeper: frames played as by the player, on a data file that every call reaches through a journal.
+#![tactic(auto)]
+
 mod disk;
 mod fresh;
 mod names;
@@ -24,7 +26,7 @@ const JOURNAL: usize = 262144;
 const ZERO: u8 = 48;
 
 // The input so far, whether more may come, and the disk.
-#[derive(Drop)]
+#[derive(Clone, Copy)]
 struct Run {
     feed: Feed,
     more: bool,

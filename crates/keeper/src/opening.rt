@@ -6,7 +6,7 @@ use lines::{feed, format, line};
 use page::bytes;
 
 // What to go on with: the session, and the disk, which is not good where keeper has to stop.
-#[derive(Drop)]
+#[derive(Clone, Copy)]
 pub struct Opened {
     pub session: Session,
     pub disk: Disk,
@@ -14,7 +14,7 @@ pub struct Opened {
 
 // A table that was looked for: whether it is there, whether it could not be read, whether it is that of a new file that is being put in place, and the
 // length of its line, 0 where that is not whole.
-#[derive(Drop)]
+#[derive(Clone, Copy)]
 struct Found {
     there: bool,
     barred: bool,

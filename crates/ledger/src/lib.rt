@@ -1,10 +1,12 @@
 // What a call answers and the state beside the file.
+#![tactic(auto)]
+
 ghost use Rattle.std.specs.Prelude.{◌≡◌};
 ghost use Rattle.ledger.specs.Answers.{done_with, refused_with, outcome, refusal};
 ghost use Rattle.ledger.specs.Currency.{unset};
 
 // Code 0 where the call is done, else the number of its refusal; then the rest is 0.
-#[derive(Drop)]
+#[derive(Clone, Copy)]
 pub struct Answer {
     pub code: u8,
     pub reference: u32,
@@ -73,7 +75,7 @@ impl Answer {
 }
 
 // The current record of the run, of each type and of each chain: codes in table order, 0 where there is none.
-#[derive(Drop)]
+#[derive(Clone, Copy)]
 pub struct Currency {
     pub run: u32,
     pub types: [u32; 16],
@@ -93,7 +95,7 @@ impl Currency {
 }
 
 // What a call hands back.
-#[derive(Drop)]
+#[derive(Clone, Copy)]
 pub struct Outcome {
     pub answer: Answer,
     pub currency: Currency,
@@ -119,7 +121,7 @@ impl Outcome {
 
 // The write of a journal that is due: 1 the image of a page, 2 ready, 3 a page stored, 4 done; in recovery 5 a page put back, 6 the journal emptied;
 // 0 none. `page` is 0 where the write is of no page.
-#[derive(Drop)]
+#[derive(Clone, Copy)]
 pub struct Due {
     pub phase: u8,
     pub page: usize,

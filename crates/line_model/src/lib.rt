@@ -1,15 +1,17 @@
 // What the player's functions compute: definitions, and the values that they name. No code.
+#![tactic(auto)]
+
 use ledger::{Answer, Currency};
 
 // The state between lines: how many words the table has, 0 before one is accepted, and the currency.
-#[derive(Drop)]
+#[derive(Clone, Copy)]
 pub struct Session {
     pub words: usize,
     pub currency: Currency,
 }
 
 // What a frame came to: the session after it, the answer, and how many bytes of READ's output it shows.
-#[derive(Drop)]
+#[derive(Clone, Copy)]
 pub struct Reply {
     pub session: Session,
     pub answer: Answer,
@@ -17,14 +19,14 @@ pub struct Reply {
 }
 
 // What a line came to: the session after it, and how many bytes it prints.
-#[derive(Drop)]
+#[derive(Clone, Copy)]
 pub struct Played {
     pub session: Session,
     pub count: usize,
 }
 
 // Input as it comes: the session, how many bytes of the present line are held, and how many bytes of output are gathered.
-#[derive(Drop)]
+#[derive(Clone, Copy)]
 pub struct Feed {
     pub session: Session,
     pub held: usize,

@@ -1,1 +1,2 @@
 // What the currency and the calls that read compute on bytes: definitions, no code.
+#![tactic(auto)]

@@ -1,14 +1,15 @@
 // What each function computes on bytes: definitions and their laws, and the values that they name. No code.
+#![tactic(auto)]
 
 // A free line of a page, and where its record would start; line 0 where all are used.
-#[derive(Drop)]
+#[derive(Clone, Copy)]
 pub struct Gap {
     pub line: u8,
     pub at: u32,
 }
 
 // What a walk in a chain needs of the table: its two types, where their links stand, and whether it has PRIORs.
-#[derive(Drop)]
+#[derive(Clone, Copy)]
 pub struct Ends {
     pub master: u16,
     pub detail: u16,
@@ -18,7 +19,7 @@ pub struct Ends {
 }
 
 // Where a file is damaged: nowhere; a page; the header or record of a ring fault; the record of an order fault.
-#[derive(Drop)]
+#[derive(Clone, Copy)]
 pub enum Fault {
     Nowhere,
     Page(u16),
@@ -27,28 +28,28 @@ pub enum Fault {
 }
 
 // Two neighbours of a ring.
-#[derive(Drop)]
+#[derive(Clone, Copy)]
 pub struct Between {
     pub before: u32,
     pub after: u32,
 }
 
 // A record found in a ring, and its place there; 0 where none was.
-#[derive(Drop)]
+#[derive(Clone, Copy)]
 pub struct Found {
     pub code: u32,
     pub place: u16,
 }
 
 // The neighbours of a record in each chain.
-#[derive(Drop)]
+#[derive(Clone, Copy)]
 pub struct Places {
     pub before: [u32; 16],
     pub after: [u32; 16],
 }
 
 // A detail below a record, and the chain in which it was met; code 0 where there is none.
-#[derive(Drop)]
+#[derive(Clone, Copy)]
 pub struct Below {
     pub chain: u16,
     pub code: u32,

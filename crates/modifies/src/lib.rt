@@ -1,2 +1,4 @@
 // MODIFY: decided on a shared file, and carried out on a mutable one.
+#![tactic(auto)]
+
 pub mod modifying;

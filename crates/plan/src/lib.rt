@@ -1,4 +1,6 @@
 // Which line or store is due: the writes of a call and of recovery, one at a time.
+#![tactic(auto)]
+
 ghost use Rattle.std.specs.Prelude.{◌≡◌, [], ◌+◌, set};
 ghost use Rattle.ledger.specs.Journal.Dues.{due, marked, call_dues, recovery_dues, first_of};
 ghost use Rattle.ledger.specs.Journal.Promises.{Marks, Follows, PutsLine};

@@ -1,4 +1,6 @@
 // The dispatcher: a well-made frame's bytes as one of the store's calls.
+#![tactic(auto)]
+
 ghost use Rattle.std.specs.Prelude.{◌≡◌, length};
 ghost use Rattle.ledger.specs.Promise.{Promised};
 ghost use Rattle.ledger.specs.Player.{call_in};

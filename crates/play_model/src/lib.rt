@@ -1,1 +1,2 @@
 // What a frame of a call does: definitions, no code.
+#![tactic(auto)]

@@ -1,4 +1,6 @@
 // The frame player: lines of hexadecimal on standard input, one frame a line, one line of answer each.
+#![tactic(auto)]
+
 use libc::{STDIN_FILENO, STDOUT_FILENO};
 use line_model::Feed;
 use lines::{feed, format};

@@ -1,3 +1,5 @@
 // STORE: decided on a shared file, and carried out on a mutable one.
+#![tactic(auto)]
+
 pub mod placing;
 pub mod storing;

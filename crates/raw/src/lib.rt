@@ -1,4 +1,6 @@
 // For measuring only: calls on lent memory without refusals 1 to 4, and these refusals alone. No host should link it for its work.
+#![tactic(auto)]
+
 ghost use Rattle.std.specs.Prelude.{◌≡◌};
 ghost use Rattle.raw_model.specs.Raws.{check_on, raw_change_on, raw_look_on, raw_play_on, raw_on};
 

@@ -1,2 +1,4 @@
 // RELINK: decided on a shared file, and carried out on a mutable one.
+#![tactic(auto)]
+
 pub mod relinking;

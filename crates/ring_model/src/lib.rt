@@ -1,1 +1,2 @@
 // What walks in rings compute on bytes: definitions, no code.
+#![tactic(auto)]

@@ -1,4 +1,6 @@
 // Walks in rings of a sound file. Each has fuel for every code that a file can have.
+#![tactic(auto)]
+
 ghost use Rattle.std.specs.Prelude.{◌≡◌};
 ghost use Rattle.ring_model.specs.Rings.{master_in, back_in, before_in, goes_before, key_stops, stops_in, next_without_in, between_in, has_key_in, key_twin_in, key_found_in, has_calc_key_in, calc_found_in, calc_twin_in, calc_before_in};
 

@@ -1,1 +1,2 @@
 // What the public calls compute on bytes: definitions and their laws, no code.
+#![tactic(auto)]

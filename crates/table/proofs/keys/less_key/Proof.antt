@@ -4,10 +4,10 @@ use Rattle.table.proofs.Laws.Keys.{less_short, less_other, less_next, less_end}
 use Rattle.table.proofs.keys.less_key.Statement.{statement}
 use Rattle.table.proofs.keys.less_key.Tie as tie
 
-abbrev invariant-loop : tie.invariant-loop
+abbrev invariant-loop : tie.invariant-loop-i
 invariant-loop a b i₀ i = less_key (drop i a) (drop i b) ≡ less_key a b
 
-abbrev decreases-loop : tie.decreases-loop
+abbrev decreases-loop : tie.decreases-loop-i
 decreases-loop a b i₀ i = length a - i
 
 pub less_key_spec : {M : Type 1} → statement M

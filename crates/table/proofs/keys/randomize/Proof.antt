@@ -4,10 +4,10 @@ use Rattle.table.proofs.Laws.Keys.{hash_next, hash_end}
 use Rattle.table.proofs.keys.randomize.Statement.{statement}
 use Rattle.table.proofs.keys.randomize.Tie as tie
 
-abbrev invariant-loop : tie.invariant-loop
+abbrev invariant-loop : tie.invariant-loop-i
 invariant-loop key h₀ i₀ h i = hash_from h (drop i key) ≡ hash_from 0 key
 
-abbrev decreases-loop : tie.decreases-loop
+abbrev decreases-loop : tie.decreases-loop-i
 decreases-loop key h₀ i₀ h i = length key - i
 
 pub randomize_spec : {M : Type 1} → statement M

@@ -4,10 +4,10 @@ use Rattle.table.proofs.Laws.Keys.{same_short, same_other, same_next, same_end}
 use Rattle.table.proofs.keys.same_key.Statement.{statement}
 use Rattle.table.proofs.keys.same_key.Tie as tie
 
-abbrev invariant-loop : tie.invariant-loop
+abbrev invariant-loop : tie.invariant-loop-i
 invariant-loop a b i₀ i = same_key (drop i a) (drop i b) ≡ same_key a b
 
-abbrev decreases-loop : tie.decreases-loop
+abbrev decreases-loop : tie.decreases-loop-i
 decreases-loop a b i₀ i = length a - i
 
 pub same_key_spec : {M : Type 1} → statement M

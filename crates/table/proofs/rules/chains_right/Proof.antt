@@ -6,10 +6,10 @@ use Rattle.table.proofs.Laws.Rules.{all_first, all_bad, all_next_lem, all_end}
 use Rattle.table.proofs.rules.chains_right.Statement.{statement}
 use Rattle.table.proofs.rules.chains_right.Tie as tie
 
-abbrev invariant-loop : tie.invariant-loop
+abbrev invariant-loop : tie.invariant-loop-left
 invariant-loop table j₀ left₀ j left = (j + left ≤ 65535) × (all (chain_right table) (run j left) ≡ all (chain_right table) (run 0 (chains table)))
 
-abbrev decreases-loop : tie.decreases-loop
+abbrev decreases-loop : tie.decreases-loop-left
 decreases-loop table j₀ left₀ j left = left
 
 pub chains_right_spec : {M : Type 1} → statement M

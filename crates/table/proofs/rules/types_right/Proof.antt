@@ -6,10 +6,10 @@ use Rattle.table.proofs.Laws.Rules.{all_first, all_bad, all_next_lem, all_end}
 use Rattle.table.proofs.rules.types_right.Statement.{statement}
 use Rattle.table.proofs.rules.types_right.Tie as tie
 
-abbrev invariant-loop : tie.invariant-loop
+abbrev invariant-loop : tie.invariant-loop-left
 invariant-loop table i₀ left₀ i left = (i + left ≤ 65535) × (all (type_right table) (run i left) ≡ all (type_right table) (run 0 (types table)))
 
-abbrev decreases-loop : tie.decreases-loop
+abbrev decreases-loop : tie.decreases-loop-left
 decreases-loop table i₀ left₀ i left = left
 
 pub types_right_spec : {M : Type 1} → statement M

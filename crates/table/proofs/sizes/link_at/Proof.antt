@@ -5,10 +5,10 @@ use Rattle.table.proofs.Laws.Sizes.{link_first, link_next, link_end}
 use Rattle.table.proofs.sizes.link_at.Statement.{statement}
 use Rattle.table.proofs.sizes.link_at.Tie as tie
 
-abbrev invariant-loop : tie.invariant-loop
+abbrev invariant-loop : tie.invariant-loop-k
 invariant-loop table number j data-length calc at₀ k₀ at k = (at + 256 * (j - k) ≤ 33554432) × (at + sum_of (link_bytes table number) (run k (j - k)) ≡ link_at table number j)
 
-abbrev decreases-loop : tie.decreases-loop
+abbrev decreases-loop : tie.decreases-loop-k
 decreases-loop table number j data-length calc at₀ k₀ at k = j - k
 
 pub link_at_spec : {M : Type 1} → statement M

@@ -4,10 +4,10 @@ use Rattle.table.proofs.Laws.Words.{row_first, row_here, row_next, row_none}
 use Rattle.table.proofs.words.row_of.Statement.{statement}
 use Rattle.table.proofs.words.row_of.Tie as tie
 
-abbrev invariant-loop : tie.invariant-loop
+abbrev invariant-loop : tie.invariant-loop-left
 invariant-loop table number i₀ left₀ i left = (i + left ≤ 65535) × (row_from table number i left ≡ row table number)
 
-abbrev decreases-loop : tie.decreases-loop
+abbrev decreases-loop : tie.decreases-loop-left
 decreases-loop table number i₀ left₀ i left = left
 
 pub row_of_spec : {M : Type 1} → statement M
