@@ -17,9 +17,9 @@ use lines::{feed, format, line};
 use opening::Opened;
 use page::bytes;
 use std::env::FillError;
-use std::io;
 use std::io::{Error, ErrorKind, Read};
 use std::rt::Env;
+use std::{io, str};
 
 // The largest file, how many bytes come in at once, and more than a journal of keeper's has.
 const FILE: usize = 65536;
@@ -241,10 +241,22 @@ fn keep(rt: &HostRuntime, name: &[u8], journal_name: &[u8]) {
     }
 }
 
+// Whether a name is text: the library opens no file by another.
+fn is_text(rt: &HostRuntime, name: &[u8]) -> bool {
+    if str::from_utf8(name).is_err() {
+        says::wrong(rt, name, b"the name is not UTF-8 text");
+        return false;
+    }
+    true
+}
+
 // Whether the names can be those of a data file and of its journal.
 fn are_two(rt: &HostRuntime, name: &[u8], journal_name: &[u8]) -> bool {
     if names::LONGEST < name.len() {
         says::wrong(rt, name, b"the name is too long");
+        return false;
+    }
+    if !is_text(rt, name) || !is_text(rt, journal_name) {
         return false;
     }
     if names::is_of(name, journal_name) {
