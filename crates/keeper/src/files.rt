@@ -4,7 +4,7 @@ use std::io::{Error, ErrorKind, Read};
 use std::{fs, io, str};
 
 // A name as text.
-fn text_of(name: &[u8]) -> io::Result<&str> {
+pub(crate) fn text_of(name: &[u8]) -> io::Result<&str> {
     match str::from_utf8(name) {
         Ok(text) => Ok(text),
         Err(_) => Err(Error::new(ErrorKind::InvalidFilename, "the name is not UTF-8 text")),

@@ -17,9 +17,9 @@ use lines::{feed, format, line};
 use opening::Opened;
 use page::bytes;
 use std::env::FillError;
+use std::io;
 use std::io::{Error, ErrorKind, Read};
 use std::rt::Env;
-use std::{io, str};
 
 // The largest file, how many bytes come in at once, and more than a journal of keeper's has.
 const FILE: usize = 65536;
@@ -91,7 +91,7 @@ fn end_line(
     let played = feed::end_line(table, file, held, run.feed, out);
     let told = bytes::part_of(out, 0, played.printed);
     settle(rt, name, table, file, before, text, told, &mut run.disk)?;
-    rt.write_all(told)?;
+    rt.stdout().write_all(told)?;
     run.feed = Feed {
         session: played.session,
         held: 0,
@@ -243,8 +243,8 @@ fn keep(rt: &HostRuntime, name: &[u8], journal_name: &[u8]) {
 
 // Whether a name is text: the library opens no file by another.
 fn is_text(rt: &HostRuntime, name: &[u8]) -> bool {
-    if str::from_utf8(name).is_err() {
-        says::wrong(rt, name, b"the name is not UTF-8 text");
+    if let Err(why) = files::text_of(name) {
+        says::refused(rt, name, why);
         return false;
     }
     true

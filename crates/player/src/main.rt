@@ -22,7 +22,7 @@ fn write_out(rt: &HostRuntime, out: &[u8], f: Feed) -> io::Result<Feed> {
     if out.len() < n {
         return Ok(f);
     }
-    rt.write_all(&out[0..n])?;
+    rt.stdout().write_all(&out[0..n])?;
     Ok(Feed {
         session,
         held: f.held,
