@@ -51,7 +51,7 @@ module _ (t f : List ℕ) (r : ℕ → List ℕ) (h : ℕ → ℕ) (a : Accepted
           details = details;
           ones = ones;
           nexts = nexts;
-          priors = λ linked. (undone_exactly m xs ones self (next_read t r j) (prior_read t r j) nexts).1 (backed_undone _ _ _ _ m m xs home back (eq-eqb _ _ linked));
+          priors = λ linked. (undone_exactly m xs ones self (next_read t r j) (prior_read t r j) nexts).1 (backed_undone _ (prior_read t r j) _ _ m m xs home back (eq-eqb _ _ linked));
         }
 
     told_home : (m : ℕ) (xs : List ℕ) → master_read t r j m ≡ true → Told t r j m xs → Home (next_read t r j) (detail_read t r j) m (next_read t r j m) xs
@@ -65,7 +65,7 @@ module _ (t f : List ℕ) (r : ℕ → List ℕ) (h : ℕ → ℕ) (a : Accepted
         let home = told_home m xs top s in
         let self : elem m xs ≡ false = not_true_false _ (λ e. clash _ (s.details m e) (off t f r h a i j within m top)) in
         rw (told_ring m xs top s)
-        (home, undone_backed _ _ _ _ m m xs home (λ l. (undone_exactly m xs s.ones self (next_read t r j) (prior_read t r j) s.nexts).0 (s.priors (eqb-true _ _ l))))
+        (home, undone_backed _ (prior_read t r j) _ _ m m xs home (λ l. (undone_exactly m xs s.ones self (next_read t r j) (prior_read t r j) s.nexts).0 (s.priors (eqb-true _ _ l))))
 
     -- every detail lies in a ring
     abbrev AllMet : Type 0

@@ -45,7 +45,7 @@ unfolding mark_from mark_all
 mark_all_lem rec t f c n count b ds k zero p h = absurd (omega arith)
 mark_all_lem rec t f c n count b _ k (suc left) (none _ e) h = rw (eq-eqb b.code 0 e)
 mark_all_lem rec t f c n count b _ k (suc left) (some _ ds e p) h =
-    rw (ne_eqb b.code 0 e) (mark_all_lem rec t f c n _ (next_below_in t f c n b) ds _ left p (omega arith))
+    rw (ne_eqb b.code 0 e) (mark_all_lem rec t f c n ((count + (rec b.code k).0) % 2 ^ 16) (next_below_in t f c n b) ds _ left p (omega arith))
 
 module _ (t f : List ℕ) (l : Ledger) (a : Accepted t) (s : Sound t f l) (c : ℕ) where
   abbrev kind : ℕ

@@ -73,6 +73,7 @@ module _ (fresh : List ℕ → List ℕ) where
     put_survives q (Cut.later (Cut.later (Cut.later (Cut.later (Cut.here (inl is)))))) = inr (rw is (starts_new (fresh l) p.table l))
     put_survives q (Cut.later (Cut.later (Cut.later (Cut.later (Cut.here (inr is)))))) =
         inr (rw is (starts_old (place (fresh l) (l ++ (10 ∷ [])) []) (unfold ended in refl)))
+    put_survives q (Cut.later (Cut.later (Cut.later (Cut.later (Cut.later c))))) = elim c [ ]
 
   -- a start cut anywhere: the next one leaves the same
   pub start_survives : (q r : Place) → Cut (start_puts fresh q) q r → started fresh r ≡ started fresh q
@@ -92,3 +93,4 @@ module _ (fresh : List ℕ → List ℕ) where
       new e (Cut.later (Cut.here (inl is))) = rw is (left_new e (fresh (line_in q.next)) ∙ sym (left_new e q.file))
       new e (Cut.later (Cut.here (inr is))) =
           rw is (starts_old (place (fresh (line_in q.next)) q.next []) (unfold ended in refl) ∙ sym (left_new e q.file))
+      new e (Cut.later (Cut.later c)) = elim c [ ]

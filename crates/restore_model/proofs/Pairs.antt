@@ -41,7 +41,7 @@ pairs_read (a ∷ b ∷ cs) = by_cases (is_digit a)
         let u = ltb-true (digit_value a) 16 ea in
         let v = ltb-true (digit_value b) 16 eb in
         let at : (k : ℕ) → k < suc (length bs) → get_or ((16 * digit_value a + digit_value b) ∷ bs) k 0 ≡ hex_at (a ∷ b ∷ cs) (2 * k)
-        = λ k. elim k [
+        = λ k. elim k as (λ k. k < suc (length bs) → get_or ((16 * digit_value a + digit_value b) ∷ bs) k 0 ≡ hex_at (a ∷ b ∷ cs) (2 * k)) [
           | zero ↦ λ h. omega arith
           | suc i ↦ λ h. let e2 : 2 * suc i ≡ suc (suc (2 * i)) = omega arith in let e3 : suc (suc (2 * i)) + 1 ≡ suc (suc (2 * i + 1)) = omega arith in rw (e2, e3) (s.bytes i (omega arith))
         ] in

@@ -7,10 +7,10 @@ use Rattle.change.proofs.Laws.Copies.{part_from, part_put_past, part_first, part
 use Rattle.gerunjap.proofs.put_codes.Statement.{statement}
 use Rattle.gerunjap.proofs.put_codes.Tie as tie
 
-abbrev invariant-loop : tie.invariant-loop
+abbrev invariant-loop : tie.invariant-loop-i
 invariant-loop words₀ at codes i₀ words i = (length words ≡ length words₀) × (part_from words at codes i ≡ part_put words₀ at codes)
 
-abbrev decreases-loop : tie.decreases-loop
+abbrev decreases-loop : tie.decreases-loop-i
 decreases-loop words₀ at codes i₀ words i = length codes - i
 
 pub put_codes_spec : {M : Type 1} → statement M

@@ -2,10 +2,10 @@ use Rattle.std.proofs.Common.{◌≡◌, length, rules}
 use Rattle.keeper.proofs.take_all.Statement.{statement}
 use Rattle.keeper.proofs.take_all.Tie as tie
 
-abbrev invariant-loop : tie.invariant-loop
+abbrev invariant-loop : tie.invariant-loop-turns
 invariant-loop name table₀ file₀ before₀ held₀ out₀ block₀ run₀ turns₀ table file before held out block run turns = (length table ≡ length table₀) × (length file ≡ length file₀) × (length before ≡ length before₀) × (length held ≡ length held₀) × (length out ≡ length out₀) × (length block ≡ length block₀)
 
-abbrev decreases-loop : tie.decreases-loop
+abbrev decreases-loop : tie.decreases-loop-turns
 decreases-loop name table₀ file₀ before₀ held₀ out₀ block₀ run₀ turns₀ table file before held out block run turns = turns
 
 pub take_all_spec : {M : Type 1} → statement M

@@ -2,10 +2,10 @@ use Rattle.std.proofs.Common.{◌≡◌, ◌-◌, length, rules}
 use Rattle.keeper.proofs.take_block.Statement.{statement}
 use Rattle.keeper.proofs.take_block.Tie as tie
 
-abbrev invariant-loop : tie.invariant-loop
+abbrev invariant-loop : tie.invariant-loop-i
 invariant-loop name table₀ file₀ before₀ held₀ out₀ block run₀ i₀ table file before held out run i = (length table ≡ length table₀) × (length file ≡ length file₀) × (length before ≡ length before₀) × (length held ≡ length held₀) × (length out ≡ length out₀)
 
-abbrev decreases-loop : tie.decreases-loop
+abbrev decreases-loop : tie.decreases-loop-i
 decreases-loop name table₀ file₀ before₀ held₀ out₀ block run₀ i₀ table file before held out run i = length block - i
 
 pub take_block_spec : {M : Type 1} → statement M

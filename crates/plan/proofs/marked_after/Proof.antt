@@ -7,10 +7,10 @@ use Rattle.plan.proofs.Laws.Planned.{marked_none, marked_here, marked_next}
 use Rattle.plan.proofs.marked_after.Statement.{statement}
 use Rattle.plan.proofs.marked_after.Tie as tie
 
-abbrev invariant-loop : tie.invariant-loop
+abbrev invariant-loop : tie.invariant-loop-i
 invariant-loop marks after i₀ i = marked_from i (drop i marks) ≡ marked_after marks after
 
-abbrev decreases-loop : tie.decreases-loop
+abbrev decreases-loop : tie.decreases-loop-i
 decreases-loop marks after i₀ i = length marks - i
 
 pub marked_after_spec : {M : Type 1} → statement M

@@ -8,10 +8,10 @@ use Rattle.plan.proofs.Laws.Planned.{marks_next, marks_end}
 use Rattle.plan.proofs.put_marks.Statement.{statement}
 use Rattle.plan.proofs.put_marks.Tie as tie
 
-abbrev invariant-loop : tie.invariant-loop
+abbrev invariant-loop : tie.invariant-loop-left
 invariant-loop before after marks₀ n i₀ left₀ marks i left = (i + left ≡ n) × (length marks ≡ length marks₀) × (marks_from before after marks i left ≡ marks_from before after marks₀ 0 n)
 
-abbrev decreases-loop : tie.decreases-loop
+abbrev decreases-loop : tie.decreases-loop-left
 decreases-loop before after marks₀ n i₀ left₀ marks i left = left
 
 pub put_marks_spec : {M : Type 1} → statement M

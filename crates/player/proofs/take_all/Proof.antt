@@ -5,10 +5,10 @@ use lib.ListN.{length}
 use Rattle.player.proofs.take_all.Statement.{statement}
 use Rattle.player.proofs.take_all.Tie as tie
 
-abbrev invariant-loop : tie.invariant-loop
+abbrev invariant-loop : tie.invariant-loop-turns
 invariant-loop table₀ file₀ held₀ block₀ out₀ f₀ turns₀ table file held block out f turns = (length table ≡ length table₀) × (length file ≡ length file₀) × (length held ≡ length held₀) × (length block ≡ length block₀) × (length out ≡ length out₀)
 
-abbrev decreases-loop : tie.decreases-loop
+abbrev decreases-loop : tie.decreases-loop-turns
 decreases-loop table₀ file₀ held₀ block₀ out₀ f₀ turns₀ table file held block out f turns = turns
 
 pub take_all_spec : {M : Type 1} → statement M

@@ -5,10 +5,10 @@ use lib.ListN.{length}
 use Rattle.player.proofs.take_block.Statement.{statement}
 use Rattle.player.proofs.take_block.Tie as tie
 
-abbrev invariant-loop : tie.invariant-loop
+abbrev invariant-loop : tie.invariant-loop-i
 invariant-loop table₀ file₀ held₀ block out₀ f₀ i₀ table file held out f i = (length table ≡ length table₀) × (length file ≡ length file₀) × (length held ≡ length held₀) × (length out ≡ length out₀)
 
-abbrev decreases-loop : tie.decreases-loop
+abbrev decreases-loop : tie.decreases-loop-i
 decreases-loop table₀ file₀ held₀ block out₀ f₀ i₀ table file held out f i = length block - i
 
 pub take_block_spec : {M : Type 1} → statement M

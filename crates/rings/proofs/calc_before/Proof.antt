@@ -6,10 +6,10 @@ use Rattle.rings.proofs.Laws.{back_out, back_here, back_next}
 use Rattle.rings.proofs.calc_before.Statement.{statement}
 use Rattle.rings.proofs.calc_before.Tie as tie
 
-abbrev invariant-loop : tie.invariant-loop
+abbrev invariant-loop : tie.invariant-loop-left
 invariant-loop table file p code last₀ at₀ left₀ last at left = back_from (calc_next_in table file) code last at left ≡ calc_before_in table file p code
 
-abbrev decreases-loop : tie.decreases-loop
+abbrev decreases-loop : tie.decreases-loop-left
 decreases-loop table file p code last₀ at₀ left₀ last at left = left
 
 pub calc_before_spec : {M : Type 1} → statement M

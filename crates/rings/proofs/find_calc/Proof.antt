@@ -11,12 +11,12 @@ use Rattle.rings.proofs.Laws.{found_out, found_home, found_here, found_next}
 use Rattle.rings.proofs.find_calc.Statement.{statement}
 use Rattle.rings.proofs.find_calc.Tie as tie
 
-abbrev invariant-loop : tie.invariant-loop
+abbrev invariant-loop : tie.invariant-loop-left
 invariant-loop table file p kind key x at₀ place₀ left₀ at place left =
     (place + left ≡ 8257)
     × (found_from (calc_next_in table file) (λ y. eqb (line_of y) 0) (has_calc_key_in table file kind key x) at place left ≡ calc_found_in table file p kind key x)
 
-abbrev decreases-loop : tie.decreases-loop
+abbrev decreases-loop : tie.decreases-loop-left
 decreases-loop table file p kind key x at₀ place₀ left₀ at place left = left
 
 pub find_calc_spec : {M : Type 1} → statement M

@@ -10,12 +10,12 @@ use Rattle.rings.proofs.Laws.{found_out, found_home, found_here, found_next}
 use Rattle.rings.proofs.find_other.Statement.{statement}
 use Rattle.rings.proofs.find_other.Tie as tie
 
-abbrev invariant-loop : tie.invariant-loop
+abbrev invariant-loop : tie.invariant-loop-left
 invariant-loop table file j m key x at₀ place₀ left₀ at place left =
     (place + left ≡ 8257)
     × (found_from (next_in table file j) (λ y. eqb y m) (has_key_in table file j key x) at place left ≡ key_found_in table file j m key x)
 
-abbrev decreases-loop : tie.decreases-loop
+abbrev decreases-loop : tie.decreases-loop-left
 decreases-loop table file j m key x at₀ place₀ left₀ at place left = left
 
 pub find_other_spec : {M : Type 1} → statement M

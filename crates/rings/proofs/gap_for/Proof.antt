@@ -5,10 +5,10 @@ use Rattle.rings.proofs.Laws.{between_out, between_home, between_here, between_n
 use Rattle.rings.proofs.gap_for.Statement.{statement}
 use Rattle.rings.proofs.gap_for.Tie as tie
 
-abbrev invariant-loop : tie.invariant-loop
+abbrev invariant-loop : tie.invariant-loop-left
 invariant-loop table file j m key x before₀ left₀ before left = between_from table file j m key x before left ≡ between_in table file j m key x
 
-abbrev decreases-loop : tie.decreases-loop
+abbrev decreases-loop : tie.decreases-loop-left
 decreases-loop table file j m key x before₀ left₀ before left = left
 
 pub gap_for_spec : {M : Type 1} → statement M

@@ -5,10 +5,10 @@ use Rattle.rings.proofs.Laws.{master_out, master_here, master_next}
 use Rattle.rings.proofs.master_of.Statement.{statement}
 use Rattle.rings.proofs.master_of.Tie as tie
 
-abbrev invariant-loop : tie.invariant-loop
+abbrev invariant-loop : tie.invariant-loop-left
 invariant-loop table file j code at₀ left₀ at left = master_from table file j at left ≡ master_in table file j code
 
-abbrev decreases-loop : tie.decreases-loop
+abbrev decreases-loop : tie.decreases-loop-left
 decreases-loop table file j code at₀ left₀ at left = left
 
 pub master_of_spec : {M : Type 1} → statement M

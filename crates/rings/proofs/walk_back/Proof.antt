@@ -6,10 +6,10 @@ use Rattle.rings.proofs.Laws.{back_out, back_here, back_next}
 use Rattle.rings.proofs.walk_back.Statement.{statement}
 use Rattle.rings.proofs.walk_back.Tie as tie
 
-abbrev invariant-loop : tie.invariant-loop
+abbrev invariant-loop : tie.invariant-loop-left
 invariant-loop table file j code last₀ at₀ left₀ last at left = back_from (next_in table file j) code last at left ≡ back_in table file j code
 
-abbrev decreases-loop : tie.decreases-loop
+abbrev decreases-loop : tie.decreases-loop-left
 decreases-loop table file j code last₀ at₀ left₀ last at left = left
 
 pub walk_back_spec : {M : Type 1} → statement M

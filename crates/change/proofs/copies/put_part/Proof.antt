@@ -7,10 +7,10 @@ use Rattle.change.proofs.Laws.Copies.{part_from, part_put_past, part_first, part
 use Rattle.change.proofs.copies.put_part.Statement.{statement}
 use Rattle.change.proofs.copies.put_part.Tie as tie
 
-abbrev invariant-loop : tie.invariant-loop
+abbrev invariant-loop : tie.invariant-loop-i
 invariant-loop f₀ at «data» i₀ f i = (length f ≡ length f₀) × (part_from f at «data» i ≡ part_put f₀ at «data»)
 
-abbrev decreases-loop : tie.decreases-loop
+abbrev decreases-loop : tie.decreases-loop-i
 decreases-loop f₀ at «data» i₀ f i = length «data» - i
 
 pub put_part_spec : {M : Type 1} → statement M

@@ -8,10 +8,10 @@ use Rattle.deletes.proofs.Laws.Closing.{close_out, close_home, close_next}
 use Rattle.deletes.proofs.closing.close_calc.Statement.{statement}
 use Rattle.deletes.proofs.closing.close_calc.Tie as tie
 
-abbrev invariant-loop : tie.invariant-loop
+abbrev invariant-loop : tie.invariant-loop-left
 invariant-loop table file₀ marks p head last₀ at₀ left₀ file last at left = (length file ≡ length file₀) × (close_from (λ g at. calc_next_in table g at) (λ g b a. calc_put table g b a) marks head file last at left ≡ calc_closed table file₀ marks p)
 
-abbrev decreases-loop : tie.decreases-loop
+abbrev decreases-loop : tie.decreases-loop-left
 decreases-loop table file₀ marks p head last₀ at₀ left₀ file last at left = left
 
 pub close_calc_spec : {M : Type 1} → statement M

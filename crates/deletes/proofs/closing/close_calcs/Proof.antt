@@ -8,10 +8,10 @@ use Rattle.deletes.proofs.Laws.Closing.{each_out, each_next}
 use Rattle.deletes.proofs.closing.close_calcs.Statement.{statement}
 use Rattle.deletes.proofs.closing.close_calcs.Tie as tie
 
-abbrev invariant-loop : tie.invariant-loop
+abbrev invariant-loop : tie.invariant-loop-left
 invariant-loop table file₀ marks p₀ left₀ file p left = (p + left ≤ 65536) × (length file ≡ length file₀) × (each_from (λ g p. calc_closed table g marks p) file p left ≡ calcs_closed table file₀ marks)
 
-abbrev decreases-loop : tie.decreases-loop
+abbrev decreases-loop : tie.decreases-loop-left
 decreases-loop table file₀ marks p₀ left₀ file p left = left
 
 pub close_calcs_spec : {M : Type 1} → statement M

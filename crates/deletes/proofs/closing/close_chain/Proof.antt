@@ -8,10 +8,10 @@ use Rattle.deletes.proofs.Laws.Closing.{each_out, each_next}
 use Rattle.deletes.proofs.closing.close_chain.Statement.{statement}
 use Rattle.deletes.proofs.closing.close_chain.Tie as tie
 
-abbrev invariant-loop : tie.invariant-loop
+abbrev invariant-loop : tie.invariant-loop-left
 invariant-loop table file₀ marks j code₀ left₀ file code left = (code + left ≤ 64 + 64 * 65535) × (length file ≡ length file₀) × (each_from (λ g c. code_closed table g marks j c) file code left ≡ chain_closed table file₀ marks j)
 
-abbrev decreases-loop : tie.decreases-loop
+abbrev decreases-loop : tie.decreases-loop-left
 decreases-loop table file₀ marks j code₀ left₀ file code left = left
 
 pub close_chain_spec : {M : Type 1} → statement M

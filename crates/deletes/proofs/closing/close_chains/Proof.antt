@@ -8,10 +8,10 @@ use Rattle.deletes.proofs.Laws.Closing.{each_out, each_next}
 use Rattle.deletes.proofs.closing.close_chains.Statement.{statement}
 use Rattle.deletes.proofs.closing.close_chains.Tie as tie
 
-abbrev invariant-loop : tie.invariant-loop
+abbrev invariant-loop : tie.invariant-loop-left
 invariant-loop table file₀ marks j₀ left₀ file j left = (j + left ≤ 65535) × (length file ≡ length file₀) × (each_from (λ g j. chain_closed table g marks j) file j left ≡ chains_closed table file₀ marks)
 
-abbrev decreases-loop : tie.decreases-loop
+abbrev decreases-loop : tie.decreases-loop-left
 decreases-loop table file₀ marks j₀ left₀ file j left = left
 
 pub close_chains_spec : {M : Type 1} → statement M

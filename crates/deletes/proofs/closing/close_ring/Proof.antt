@@ -8,10 +8,10 @@ use Rattle.deletes.proofs.Laws.Closing.{close_out, close_home, close_next}
 use Rattle.deletes.proofs.closing.close_ring.Statement.{statement}
 use Rattle.deletes.proofs.closing.close_ring.Tie as tie
 
-abbrev invariant-loop : tie.invariant-loop
+abbrev invariant-loop : tie.invariant-loop-left
 invariant-loop table file₀ marks j m last₀ at₀ left₀ file last at left = (length file ≡ length file₀) × (close_from (λ g at. next_in table g j at) (λ g b a. joined_in table g j b a) marks m file last at left ≡ ring_closed table file₀ marks j m)
 
-abbrev decreases-loop : tie.decreases-loop
+abbrev decreases-loop : tie.decreases-loop-left
 decreases-loop table file₀ marks j m last₀ at₀ left₀ file last at left = left
 
 pub close_ring_spec : {M : Type 1} → statement M

@@ -8,10 +8,10 @@ use Rattle.deletes.proofs.Laws.Closing.{each_out, each_next}
 use Rattle.deletes.proofs.closing.take_marked.Statement.{statement}
 use Rattle.deletes.proofs.closing.take_marked.Tie as tie
 
-abbrev invariant-loop : tie.invariant-loop
+abbrev invariant-loop : tie.invariant-loop-left
 invariant-loop file₀ marks code₀ left₀ file code left = (code + left ≤ 8256) × (length file ≡ length file₀) × (each_from (λ g c. mark_taken g marks c) file code left ≡ marks_taken file₀ marks)
 
-abbrev decreases-loop : tie.decreases-loop
+abbrev decreases-loop : tie.decreases-loop-left
 decreases-loop file₀ marks code₀ left₀ file code left = left
 
 pub take_marked_spec : {M : Type 1} → statement M

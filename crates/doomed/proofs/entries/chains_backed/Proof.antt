@@ -5,10 +5,10 @@ use Rattle.doomed.proofs.Laws.Entries.{changed_from, changed_first, changed_next
 use Rattle.doomed.proofs.entries.chains_backed.Statement.{statement}
 use Rattle.doomed.proofs.entries.chains_backed.Tie as tie
 
-abbrev invariant-loop : tie.invariant-loop
+abbrev invariant-loop : tie.invariant-loop-j
 invariant-loop table file marks out₀ j₀ out j = (length out ≡ 16) × (changed_from (λ j y. backed_in table file marks j y) out j ≡ by_index (λ j y. backed_in table file marks j y) 0 out₀)
 
-abbrev decreases-loop : tie.decreases-loop
+abbrev decreases-loop : tie.decreases-loop-j
 decreases-loop table file marks out₀ j₀ out j = 16 - j
 
 pub chains_backed_spec : {M : Type 1} → statement M

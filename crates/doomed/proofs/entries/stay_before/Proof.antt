@@ -6,10 +6,10 @@ use Rattle.doomed.proofs.Laws.Entries.{stay_out, stay_here, stay_next}
 use Rattle.doomed.proofs.entries.stay_before.Statement.{statement}
 use Rattle.doomed.proofs.entries.stay_before.Tie as tie
 
-abbrev invariant-loop : tie.invariant-loop
+abbrev invariant-loop : tie.invariant-loop-left
 invariant-loop table file marks j m code best₀ at₀ left₀ best at left = stay_from (next_in table file j) (goes_in marks) code best at left ≡ stay_in table file marks j m code
 
-abbrev decreases-loop : tie.decreases-loop
+abbrev decreases-loop : tie.decreases-loop-left
 decreases-loop table file marks j m code best₀ at₀ left₀ best at left = left
 
 pub stay_before_spec : {M : Type 1} → statement M

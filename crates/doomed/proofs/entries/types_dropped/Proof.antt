@@ -5,10 +5,10 @@ use Rattle.doomed.proofs.Laws.Entries.{changed_from, changed_first, changed_next
 use Rattle.doomed.proofs.entries.types_dropped.Statement.{statement}
 use Rattle.doomed.proofs.entries.types_dropped.Tie as tie
 
-abbrev invariant-loop : tie.invariant-loop
+abbrev invariant-loop : tie.invariant-loop-i
 invariant-loop marks out₀ i₀ out i = (length out ≡ 16) × (changed_from (λ i y. dropped_in marks y) out i ≡ by_index (λ i y. dropped_in marks y) 0 out₀)
 
-abbrev decreases-loop : tie.decreases-loop
+abbrev decreases-loop : tie.decreases-loop-i
 decreases-loop marks out₀ i₀ out i = 16 - i
 
 pub types_dropped_spec : {M : Type 1} → statement M

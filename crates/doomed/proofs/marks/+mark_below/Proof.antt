@@ -26,10 +26,10 @@ abbrev mark_below_below : ℕ → In 3 mark-below-kinds.ps
 mark_below_below t =
     and 3 mark-below-kinds.ps (falls 3 mark-below-kinds.ps ◌<◌ μ_mark_below t) mark-below.Pre
 
-abbrev mark_below_Inv_loop : mark-below-lts.invariant-loop
+abbrev mark_below_Inv_loop : mark-below-lts.invariant-loop-left
 mark_below_Inv_loop table file marks₀ level code kind n₀ at₀ left₀ marks n at left = (length marks ≡ length marks₀) × (mark_from (marked_on table file (level - 1)) table file code kind n at marks left ≡ below_on (marked_on table file (level - 1)) table file code marks₀)
 
-abbrev mark_below_μ_loop : mark-below-lts.decreases-loop
+abbrev mark_below_μ_loop : mark-below-lts.decreases-loop-left
 mark_below_μ_loop table file marks₀ level code kind n₀ at₀ left₀ marks n at left = left
 
 pub +mark_below_spec : {M : Type 1} → statement M

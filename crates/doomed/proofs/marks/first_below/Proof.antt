@@ -4,10 +4,10 @@ use Rattle.doomed.proofs.Laws.Marks.{below_out, below_past, below_here, below_ne
 use Rattle.doomed.proofs.marks.first_below.Statement.{statement}
 use Rattle.doomed.proofs.marks.first_below.Tie as tie
 
-abbrev invariant-loop : tie.invariant-loop
+abbrev invariant-loop : tie.invariant-loop-left
 invariant-loop table file code kind j chain₀ left₀ chain left = first_from table file code kind chain left ≡ first_below_in table file code kind j
 
-abbrev decreases-loop : tie.decreases-loop
+abbrev decreases-loop : tie.decreases-loop-left
 decreases-loop table file code kind j chain₀ left₀ chain left = left
 
 pub first_below_spec : {M : Type 1} → statement M

@@ -7,10 +7,10 @@ use Rattle.frames.proofs.Laws.Lines.{decode_end, decode_stop, decode_next}
 use Rattle.frames.proofs.hex.decode.Statement.{statement}
 use Rattle.frames.proofs.hex.decode.Tie as tie
 
-abbrev invariant-loop : tie.invariant-loop
+abbrev invariant-loop : tie.invariant-loop-i
 invariant-loop line frame₀ s₀ i₀ frame s i = (length frame ≡ length frame₀) × (decode_from (drop i line) frame s ≡ decode_on line frame₀)
 
-abbrev decreases-loop : tie.decreases-loop
+abbrev decreases-loop : tie.decreases-loop-i
 decreases-loop line frame₀ s₀ i₀ frame s i = length line - i
 
 pub decode_spec : {M : Type 1} → statement M

@@ -8,10 +8,10 @@ use Rattle.frames.proofs.Laws.Prints.{data_end, data_full, data_next}
 use Rattle.frames.proofs.text.put_data.Statement.{statement}
 use Rattle.frames.proofs.text.put_data.Tie as tie
 
-abbrev invariant-loop : tie.invariant-loop
+abbrev invariant-loop : tie.invariant-loop-i
 invariant-loop out₀ «data» at₀ i₀ out at i = (at ≤ 416) × (length out ≡ length out₀) × (data_put out at (drop i «data») ≡ data_put out₀ 16 «data»)
 
-abbrev decreases-loop : tie.decreases-loop
+abbrev decreases-loop : tie.decreases-loop-i
 decreases-loop out₀ «data» at₀ i₀ out at i = length «data» - i
 
 pub put_data_spec : {M : Type 1} → statement M

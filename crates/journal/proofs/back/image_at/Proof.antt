@@ -8,10 +8,10 @@ use Rattle.records.proofs.Laws.Moves.{fill_first, fill_next, fill_end}
 use Rattle.journal.proofs.back.image_at.Statement.{statement}
 use Rattle.journal.proofs.back.image_at.Tie as tie
 
-abbrev invariant-loop : tie.invariant-loop
+abbrev invariant-loop : tie.invariant-loop-i
 invariant-loop journal at out₀ i₀ out i = (length out ≡ 512) × (fill_from (λ k. hex_at journal (at + (4 + 2 * k))) out i (512 - i) ≡ image_at journal at)
 
-abbrev decreases-loop : tie.decreases-loop
+abbrev decreases-loop : tie.decreases-loop-i
 decreases-loop journal at out₀ i₀ out i = 512 - i
 
 pub image_at_spec : {M : Type 1} → statement M

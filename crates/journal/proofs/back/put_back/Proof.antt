@@ -6,10 +6,10 @@ use Rattle.journal.proofs.Laws.Restored.{back_next, back_ready, back_none}
 use Rattle.journal.proofs.back.put_back.Statement.{statement}
 use Rattle.journal.proofs.back.put_back.Tie as tie
 
-abbrev invariant-loop : tie.invariant-loop
+abbrev invariant-loop : tie.invariant-loop-left
 invariant-loop file₀ stored₀ journal from at₀ left₀ file stored at left = (length file ≡ length file₀) × (length stored ≡ length stored₀) × (back_from journal file stored at left ≡ back_from journal file₀ stored₀ from (length journal))
 
-abbrev decreases-loop : tie.decreases-loop
+abbrev decreases-loop : tie.decreases-loop-left
 decreases-loop file₀ stored₀ journal from at₀ left₀ file stored at left = left
 
 pub put_back_spec : {M : Type 1} → statement M

@@ -7,10 +7,10 @@ use Rattle.journal.proofs.Laws.Written.{count_next, count_end}
 use Rattle.journal.proofs.text.count_of.Statement.{statement}
 use Rattle.journal.proofs.text.count_of.Tie as tie
 
-abbrev invariant-loop : tie.invariant-loop
+abbrev invariant-loop : tie.invariant-loop-left
 invariant-loop before after n count₀ p₀ left₀ count p left = (p + left ≡ n + 1) × (count + 255 * left ≤ 255 * n) × (count_from before after p count left ≡ count_of before after n)
 
-abbrev decreases-loop : tie.decreases-loop
+abbrev decreases-loop : tie.decreases-loop-left
 decreases-loop before after n count₀ p₀ left₀ count p left = left
 
 pub count_of_spec : {M : Type 1} → statement M

@@ -7,10 +7,10 @@ use Rattle.journal.proofs.Laws.Written.{digits_end, digits_tiny, digits_full, di
 use Rattle.journal.proofs.text.put_digits.Statement.{statement}
 use Rattle.journal.proofs.text.put_digits.Tie as tie
 
-abbrev invariant-loop : tie.invariant-loop
+abbrev invariant-loop : tie.invariant-loop-i
 invariant-loop out₀ at «data» to₀ i₀ out to i = (length out ≡ length out₀) × (digits_put out to (drop i «data») ≡ digits_put out₀ at «data»)
 
-abbrev decreases-loop : tie.decreases-loop
+abbrev decreases-loop : tie.decreases-loop-i
 decreases-loop out₀ at «data» to₀ i₀ out to i = length «data» - i
 
 pub put_digits_spec : {M : Type 1} → statement M

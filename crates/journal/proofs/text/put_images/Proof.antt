@@ -8,10 +8,10 @@ use Rattle.journal.proofs.Laws.Written.{images_next, images_end}
 use Rattle.journal.proofs.text.put_images.Statement.{statement}
 use Rattle.journal.proofs.text.put_images.Tie as tie
 
-abbrev invariant-loop : tie.invariant-loop
+abbrev invariant-loop : tie.invariant-loop-left
 invariant-loop out₀ before after n at₀ p₀ left₀ out at p left = (p + left ≡ n + 1) × (at + 65535 * left ≤ 65535 * n) × (length out ≡ length out₀) × (images_from out at before after p left ≡ images_from out₀ 0 before after 1 n)
 
-abbrev decreases-loop : tie.decreases-loop
+abbrev decreases-loop : tie.decreases-loop-left
 decreases-loop out₀ before after n at₀ p₀ left₀ out at p left = left
 
 pub put_images_spec : {M : Type 1} → statement M

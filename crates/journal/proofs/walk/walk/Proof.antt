@@ -7,10 +7,10 @@ use Rattle.journal.proofs.Laws.Walked.{walk_end, walk_next}
 use Rattle.journal.proofs.walk.walk.Statement.{statement}
 use Rattle.journal.proofs.walk.walk.Tie as tie
 
-abbrev invariant-loop : tie.invariant-loop
+abbrev invariant-loop : tie.invariant-loop-i
 invariant-loop journal n w₀ i₀ w i = walk_from n journal i (drop i journal) w ≡ walk_on n journal
 
-abbrev decreases-loop : tie.decreases-loop
+abbrev decreases-loop : tie.decreases-loop-i
 decreases-loop journal n w₀ i₀ w i = length journal - i
 
 pub walk_spec : {M : Type 1} → statement M

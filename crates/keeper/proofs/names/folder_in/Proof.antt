@@ -2,10 +2,10 @@ use Rattle.std.proofs.Common.{◌≤◌, length, rules}
 use Rattle.keeper.proofs.names.folder_in.Statement.{statement}
 use Rattle.keeper.proofs.names.folder_in.Tie as tie
 
-abbrev invariant-loop : tie.invariant-loop
+abbrev invariant-loop : tie.invariant-loop-i
 invariant-loop name i₀ i = i ≤ length name
 
-abbrev decreases-loop : tie.decreases-loop
+abbrev decreases-loop : tie.decreases-loop-i
 decreases-loop name i₀ i = i
 
 pub folder_in_spec : {M : Type 1} → statement M

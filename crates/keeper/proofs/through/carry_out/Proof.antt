@@ -2,10 +2,10 @@ use Rattle.std.proofs.Common.{rules}
 use Rattle.keeper.proofs.through.carry_out.Statement.{statement}
 use Rattle.keeper.proofs.through.carry_out.Tie as tie
 
-abbrev invariant-loop : tie.invariant-loop
+abbrev invariant-loop : tie.invariant-loop-left
 invariant-loop marks before after d₀ due₀ left₀ d due left = Unit {0}
 
-abbrev decreases-loop : tie.decreases-loop
+abbrev decreases-loop : tie.decreases-loop-left
 decreases-loop marks before after d₀ due₀ left₀ d due left = left
 
 pub carry_out_spec : {M : Type 1} → statement M

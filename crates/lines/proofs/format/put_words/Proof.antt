@@ -7,10 +7,10 @@ use Rattle.lines.proofs.Laws.Formats.{put_first, fill_past, fill_next, fill_end}
 use Rattle.lines.proofs.format.put_words.Statement.{statement}
 use Rattle.lines.proofs.format.put_words.Tie as tie
 
-abbrev invariant-loop : tie.invariant-loop
+abbrev invariant-loop : tie.invariant-loop-i
 invariant-loop table₀ from i₀ table i = (length table ≡ length table₀) × (fill_from (λ k. get_or from k 0) table i (length from - i) ≡ words_put table₀ from)
 
-abbrev decreases-loop : tie.decreases-loop
+abbrev decreases-loop : tie.decreases-loop-i
 decreases-loop table₀ from i₀ table i = length from - i
 
 pub put_words_spec : {M : Type 1} → statement M

@@ -7,10 +7,10 @@ use Rattle.lines.proofs.Laws.Formats.{words_first, fill_on, fill_past}
 use Rattle.lines.proofs.format.take_words.Statement.{statement}
 use Rattle.lines.proofs.format.take_words.Tie as tie
 
-abbrev invariant-loop : tie.invariant-loop
+abbrev invariant-loop : tie.invariant-loop-i
 invariant-loop frame fresh₀ i₀ fresh i = (length fresh ≡ length fresh₀) × (fill_from (word_in frame) fresh i (length fresh₀ - i) ≡ words_in frame fresh₀)
 
-abbrev decreases-loop : tie.decreases-loop
+abbrev decreases-loop : tie.decreases-loop-i
 decreases-loop frame fresh₀ i₀ fresh i = length fresh₀ - i
 
 pub take_words_spec : {M : Type 1} → statement M

@@ -8,10 +8,10 @@ use Rattle.looks.proofs.Laws.Calls.{first_out, first_here, first_next}
 use Rattle.looks.proofs.calls.first_from.Statement.{statement}
 use Rattle.looks.proofs.calls.first_from.Tie as tie
 
-abbrev invariant-loop : tie.invariant-loop
+abbrev invariant-loop : tie.invariant-loop-left
 invariant-loop file first last code₀ left₀ code left = (code + left ≡ 8320) × (first_of (there_in file first last) (run code left) ≡ first_in file first last)
 
-abbrev decreases-loop : tie.decreases-loop
+abbrev decreases-loop : tie.decreases-loop-left
 decreases-loop file first last code₀ left₀ code left = left
 
 pub first_from_spec : {M : Type 1} → statement M

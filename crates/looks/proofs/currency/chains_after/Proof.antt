@@ -7,10 +7,10 @@ use Rattle.looks.proofs.Laws.Currency.{entries_next, entries_end}
 use Rattle.looks.proofs.currency.chains_after.Statement.{statement}
 use Rattle.looks.proofs.currency.chains_after.Tie as tie
 
-abbrev invariant-loop : tie.invariant-loop
+abbrev invariant-loop : tie.invariant-loop-j
 invariant-loop table kind code out₀ j₀ out j = (length out ≡ 16) × (entries_from table kind code out j (16 - j) ≡ entries_from table kind code out₀ 0 16)
 
-abbrev decreases-loop : tie.decreases-loop
+abbrev decreases-loop : tie.decreases-loop-j
 decreases-loop table kind code out₀ j₀ out j = 16 - j
 
 pub chains_after_spec : {M : Type 1} → statement M

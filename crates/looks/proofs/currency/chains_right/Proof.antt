@@ -6,10 +6,10 @@ use Rattle.looks.proofs.Laws.Currency.{rights_end, rights_wrong, rights_next}
 use Rattle.looks.proofs.currency.chains_right.Statement.{statement}
 use Rattle.looks.proofs.currency.chains_right.Tie as tie
 
-abbrev invariant-loop : tie.invariant-loop
+abbrev invariant-loop : tie.invariant-loop-j
 invariant-loop table file chains j₀ j = right_from (chain_right_in table file) chains j (16 - j) ≡ all_right (chain_right_in table file) chains
 
-abbrev decreases-loop : tie.decreases-loop
+abbrev decreases-loop : tie.decreases-loop-j
 decreases-loop table file chains j₀ j = 16 - j
 
 pub chains_right_spec : {M : Type 1} → statement M

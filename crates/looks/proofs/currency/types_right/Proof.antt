@@ -6,10 +6,10 @@ use Rattle.looks.proofs.Laws.Currency.{rights_end, rights_wrong, rights_next}
 use Rattle.looks.proofs.currency.types_right.Statement.{statement}
 use Rattle.looks.proofs.currency.types_right.Tie as tie
 
-abbrev invariant-loop : tie.invariant-loop
+abbrev invariant-loop : tie.invariant-loop-i
 invariant-loop table file types i₀ i = right_from (type_right_in table file) types i (16 - i) ≡ all_right (type_right_in table file) types
 
-abbrev decreases-loop : tie.decreases-loop
+abbrev decreases-loop : tie.decreases-loop-i
 decreases-loop table file types i₀ i = 16 - i
 
 pub types_right_spec : {M : Type 1} → statement M

@@ -11,10 +11,10 @@ use Rattle.puts.proofs.Laws.Details.{any_first, any_out, any_here, any_next}
 use Rattle.modifies.proofs.modifying.any_twin.Statement.{statement}
 use Rattle.modifies.proofs.modifying.any_twin.Tie as tie
 
-abbrev invariant-loop : tie.invariant-loop
+abbrev invariant-loop : tie.invariant-loop-left
 invariant-loop table file kind «data» x j₀ left₀ j left = (j + left ≤ 65535) × (any (λ i. is_detail table i kind && key_twin_in table file i (master_in table file i x) (sort_key table i kind «data») x) (run j left) ≡ modify_twin table file kind «data» x)
 
-abbrev decreases-loop : tie.decreases-loop
+abbrev decreases-loop : tie.decreases-loop-left
 decreases-loop table file kind «data» x j₀ left₀ j left = left
 
 pub any_twin_spec : {M : Type 1} → statement M

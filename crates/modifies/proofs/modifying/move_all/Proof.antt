@@ -7,10 +7,10 @@ use Rattle.modifies.proofs.Laws.Modifying.{rejoin_first, rejoin_next, rejoin_end
 use Rattle.modifies.proofs.modifying.move_all.Statement.{statement}
 use Rattle.modifies.proofs.modifying.move_all.Tie as tie
 
-abbrev invariant-loop : tie.invariant-loop
+abbrev invariant-loop : tie.invariant-loop-j
 invariant-loop table file₀ kind «data» x j₀ file j = (length file ≡ length file₀) × (rejoined_from table file kind «data» x j (16 - j) ≡ rejoined_all table file₀ kind «data» x)
 
-abbrev decreases-loop : tie.decreases-loop
+abbrev decreases-loop : tie.decreases-loop-j
 decreases-loop table file₀ kind «data» x j₀ file j = 16 - j
 
 pub move_all_spec : {M : Type 1} → statement M

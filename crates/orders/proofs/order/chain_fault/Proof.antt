@@ -9,10 +9,10 @@ use Rattle.orders.proofs.Laws.Orders.{order_unsorted, order_sorted}
 use Rattle.orders.proofs.order.chain_fault.Statement.{statement}
 use Rattle.orders.proofs.order.chain_fault.Tie as tie
 
-abbrev invariant-loop : tie.invariant-loop
+abbrev invariant-loop : tie.invariant-loop-left
 invariant-loop table file j code₀ left₀ code left = (code + left ≤ 4194304) × (first_of (disordered_in table file j) (run code left) ≡ disorder_in table file j)
 
-abbrev decreases-loop : tie.decreases-loop
+abbrev decreases-loop : tie.decreases-loop-left
 decreases-loop table file j code₀ left₀ code left = left
 
 pub chain_fault_spec : {M : Type 1} → statement M

@@ -10,10 +10,10 @@ use Rattle.orders.proofs.Laws.Orders.{order_first}
 use Rattle.orders.proofs.order.order_fault.Statement.{statement}
 use Rattle.orders.proofs.order.order_fault.Tie as tie
 
-abbrev invariant-loop : tie.invariant-loop
+abbrev invariant-loop : tie.invariant-loop-left
 invariant-loop table file j₀ left₀ j left = (j + left ≤ 65535) × (first_fault (disorder_in table file) (run j left) ≡ order_fault_in table file)
 
-abbrev decreases-loop : tie.decreases-loop
+abbrev decreases-loop : tie.decreases-loop-left
 decreases-loop table file j₀ left₀ j left = left
 
 pub order_fault_spec : {M : Type 1} → statement M

@@ -5,10 +5,10 @@ use Rattle.orders.proofs.Laws.Orders.{ordered_first, ordered_spent, ordered_home
 use Rattle.orders.proofs.order.ring_in_order.Statement.{statement}
 use Rattle.orders.proofs.order.ring_in_order.Tie as tie
 
-abbrev invariant-loop : tie.invariant-loop
+abbrev invariant-loop : tie.invariant-loop-left
 invariant-loop table file j m at₀ left₀ at left = ordered_from left table file j m at ≡ ring_ordered_in table file j m
 
-abbrev decreases-loop : tie.decreases-loop
+abbrev decreases-loop : tie.decreases-loop-left
 decreases-loop table file j m at₀ left₀ at left = left
 
 pub ring_in_order_spec : {M : Type 1} → statement M

@@ -5,10 +5,10 @@ use Rattle.page.proofs.Laws.Lookup.{line_out, line_limit, line_end, line_here, l
 use Rattle.page.proofs.lookup.find_line.Statement.{statement}
 use Rattle.page.proofs.lookup.find_line.Tie as tie
 
-abbrev invariant-loop : tie.invariant-loop
+abbrev invariant-loop : tie.invariant-loop-left
 invariant-loop page line at₀ left₀ at left = lookup 508 left page at line ≡ line_in page line
 
-abbrev decreases-loop : tie.decreases-loop
+abbrev decreases-loop : tie.decreases-loop-left
 decreases-loop page line at₀ left₀ at left = left
 
 pub find_line_spec : {M : Type 1} → statement M

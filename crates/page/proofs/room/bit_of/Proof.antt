@@ -3,10 +3,10 @@ use Rattle.page.proofs.Laws.Room.{bit_start, bit_next, bit_end}
 use Rattle.page.proofs.room.bit_of.Statement.{statement}
 use Rattle.page.proofs.room.bit_of.Tie as tie
 
-abbrev invariant-loop : tie.invariant-loop
+abbrev invariant-loop : tie.invariant-loop-left
 invariant-loop line bit₀ left₀ bit left = (left ≤ line % 64) × (bit ≡ 2 ^ (line % 64 - left))
 
-abbrev decreases-loop : tie.decreases-loop
+abbrev decreases-loop : tie.decreases-loop-left
 decreases-loop line bit₀ left₀ bit left = left
 
 pub bit_of_spec : {M : Type 1} → statement M

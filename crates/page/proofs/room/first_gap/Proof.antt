@@ -4,10 +4,10 @@ use Rattle.page.proofs.Laws.Room.{gap_full, gap_here, gap_next}
 use Rattle.page.proofs.room.first_gap.Statement.{statement}
 use Rattle.page.proofs.room.first_gap.Tie as tie
 
-abbrev invariant-loop : tie.invariant-loop
+abbrev invariant-loop : tie.invariant-loop-left
 invariant-loop page at₀ line₀ left₀ at line left = (at + left * 65536 ≤ 4194320) × (line + left ≡ 64) × (gap_from page at line left ≡ first_gap page)
 
-abbrev decreases-loop : tie.decreases-loop
+abbrev decreases-loop : tie.decreases-loop-left
 decreases-loop page at₀ line₀ left₀ at line left = left
 
 pub first_gap_spec : {M : Type 1} → statement M

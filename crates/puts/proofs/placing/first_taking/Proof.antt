@@ -7,10 +7,10 @@ use Rattle.puts.proofs.Laws.Placing.{first_out, first_here, first_next}
 use Rattle.puts.proofs.placing.first_taking.Statement.{statement}
 use Rattle.puts.proofs.placing.first_taking.Tie as tie
 
-abbrev invariant-loop : tie.invariant-loop
+abbrev invariant-loop : tie.invariant-loop-p
 invariant-loop file size start end p₀ p = first_of (takes_in file size) (run p (end - p)) ≡ first_of (takes_in file size) (run start (end - start))
 
-abbrev decreases-loop : tie.decreases-loop
+abbrev decreases-loop : tie.decreases-loop-p
 decreases-loop file size start end p₀ p = end - p
 
 pub first_taking_spec : {M : Type 1} → statement M

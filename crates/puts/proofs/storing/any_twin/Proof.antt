@@ -12,10 +12,10 @@ use Rattle.puts.proofs.Laws.Details.{any_first, any_out, any_here, any_next}
 use Rattle.puts.proofs.storing.any_twin.Statement.{statement}
 use Rattle.puts.proofs.storing.any_twin.Tie as tie
 
-abbrev invariant-loop : tie.invariant-loop
+abbrev invariant-loop : tie.invariant-loop-left
 invariant-loop table file cur kind «data» j₀ left₀ j left = (j + left ≤ 65535) × (any (λ i. is_detail table i kind && key_twin_in table file i (occurrence_in table file cur i) (sort_key table i kind «data») 0) (run j left) ≡ store_twin table file cur kind «data»)
 
-abbrev decreases-loop : tie.decreases-loop
+abbrev decreases-loop : tie.decreases-loop-left
 decreases-loop table file cur kind «data» j₀ left₀ j left = left
 
 pub any_twin_spec : {M : Type 1} → statement M

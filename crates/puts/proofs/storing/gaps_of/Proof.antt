@@ -7,10 +7,10 @@ use Rattle.puts.proofs.Laws.Storing.{places_first, places_next, places_end}
 use Rattle.puts.proofs.storing.gaps_of.Statement.{statement}
 use Rattle.puts.proofs.storing.gaps_of.Tie as tie
 
-abbrev invariant-loop : tie.invariant-loop
+abbrev invariant-loop : tie.invariant-loop-j
 invariant-loop table file cur kind «data» x before₀ after₀ j₀ before after j = (length before ≡ 16) × (length after ≡ 16) × (places_from (gap_in table file cur kind «data» x) (record { before = before; after = after }) j (16 - j) ≡ places_by (gap_in table file cur kind «data» x))
 
-abbrev decreases-loop : tie.decreases-loop
+abbrev decreases-loop : tie.decreases-loop-j
 decreases-loop table file cur kind «data» x before₀ after₀ j₀ before after j = 16 - j
 
 pub gaps_of_spec : {M : Type 1} → statement M

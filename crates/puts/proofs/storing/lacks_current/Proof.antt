@@ -12,10 +12,10 @@ use Rattle.puts.proofs.Laws.Details.{any_first, any_out, any_here, any_next}
 use Rattle.puts.proofs.storing.lacks_current.Statement.{statement}
 use Rattle.puts.proofs.storing.lacks_current.Tie as tie
 
-abbrev invariant-loop : tie.invariant-loop
+abbrev invariant-loop : tie.invariant-loop-left
 invariant-loop table cur kind j₀ left₀ j left = (j + left ≤ 65535) × (any (λ i. is_detail table i kind && eqb (chain_current cur i) 0) (run j left) ≡ lacks_current table cur kind)
 
-abbrev decreases-loop : tie.decreases-loop
+abbrev decreases-loop : tie.decreases-loop-left
 decreases-loop table cur kind j₀ left₀ j left = left
 
 pub lacks_current_spec : {M : Type 1} → statement M

@@ -7,10 +7,10 @@ use Rattle.puts.proofs.Laws.Storing.{enter_first, enter_next, enter_end}
 use Rattle.puts.proofs.storing.link_all.Statement.{statement}
 use Rattle.puts.proofs.storing.link_all.Tie as tie
 
-abbrev invariant-loop : tie.invariant-loop
+abbrev invariant-loop : tie.invariant-loop-j
 invariant-loop table file₀ kind x before after j₀ file j = (length file ≡ length file₀) × (entered_from table file kind x (place_at (record { before = before; after = after })) j (16 - j) ≡ entered_all table file₀ kind x (place_at (record { before = before; after = after })))
 
-abbrev decreases-loop : tie.decreases-loop
+abbrev decreases-loop : tie.decreases-loop-j
 decreases-loop table file₀ kind x before after j₀ file j = 16 - j
 
 pub link_all_spec : {M : Type 1} → statement M

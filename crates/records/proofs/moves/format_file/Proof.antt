@@ -4,10 +4,10 @@ use Rattle.records.proofs.Laws.Moves.{made_first, made_short, made_next, made_al
 use Rattle.records.proofs.moves.format_file.Statement.{statement}
 use Rattle.records.proofs.moves.format_file.Tie as tie
 
-abbrev invariant-loop : tie.invariant-loop
+abbrev invariant-loop : tie.invariant-loop-left
 invariant-loop file₀ p₀ left₀ file p left = (1 ≤ p) × (p + left ≤ 129) × (length file ≡ length file₀) × (made_from file p left ≡ file_made file₀)
 
-abbrev decreases-loop : tie.decreases-loop
+abbrev decreases-loop : tie.decreases-loop-left
 decreases-loop file₀ p₀ left₀ file p left = left
 
 pub format_file_spec : {M : Type 1} → statement M

@@ -4,10 +4,10 @@ use Rattle.records.proofs.Laws.Moves.{fill_first, fill_next, fill_end}
 use Rattle.records.proofs.moves.opened_page.Statement.{statement}
 use Rattle.records.proofs.moves.opened_page.Tie as tie
 
-abbrev invariant-loop : tie.invariant-loop
+abbrev invariant-loop : tie.invariant-loop-i
 invariant-loop page at n out₀ i₀ out i = (length out ≡ 512) × (fill_from (opened_byte page at n) out i (512 - i) ≡ fill (opened_byte page at n))
 
-abbrev decreases-loop : tie.decreases-loop
+abbrev decreases-loop : tie.decreases-loop-i
 decreases-loop page at n out₀ i₀ out i = 512 - i
 
 pub opened_page_spec : {M : Type 1} → statement M

@@ -7,10 +7,10 @@ use Rattle.scan.proofs.Laws.Pages.{pages_first, pages_short, pages_fault, pages_
 use Rattle.scan.proofs.pages.faulty_page.Statement.{statement}
 use Rattle.scan.proofs.pages.faulty_page.Tie as tie
 
-abbrev invariant-loop : tie.invariant-loop
+abbrev invariant-loop : tie.invariant-loop-left
 invariant-loop table file p₀ left₀ p left = (p + left ≤ 65535) × (scan_from table file (p + 1) left ≡ scan table file)
 
-abbrev decreases-loop : tie.decreases-loop
+abbrev decreases-loop : tie.decreases-loop-left
 decreases-loop table file p₀ left₀ p left = left
 
 pub faulty_page_spec : {M : Type 1} → statement M

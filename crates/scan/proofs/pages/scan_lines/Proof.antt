@@ -7,10 +7,10 @@ use Rattle.scan.proofs.Laws.Pages.{half_next, half_fits, bits_next, bits_fit, li
 use Rattle.scan.proofs.pages.scan_lines.Statement.{statement}
 use Rattle.scan.proofs.pages.scan_lines.Tie as tie
 
-abbrev invariant-loop : tie.invariant-loop
+abbrev invariant-loop : tie.invariant-loop-left
 invariant-loop table page p at₀ bits₀ half₀ line₀ left₀ at bits half line left = (at ≤ 512) × (line + left ≡ 64) × (half * 2 ≡ 2 ^ line) × (bits < 2 ^ line) × (lines_from table page p at bits line left ≡ lines_in table page p)
 
-abbrev decreases-loop : tie.decreases-loop
+abbrev decreases-loop : tie.decreases-loop-left
 decreases-loop table page p at₀ bits₀ half₀ line₀ left₀ at bits half line left = left
 
 pub scan_lines_spec : {M : Type 1} → statement M

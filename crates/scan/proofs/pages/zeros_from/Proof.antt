@@ -7,10 +7,10 @@ use Rattle.scan.proofs.Laws.Pages.{zeros_broken, zeros_next, zeros_all}
 use Rattle.scan.proofs.pages.zeros_from.Statement.{statement}
 use Rattle.scan.proofs.pages.zeros_from.Tie as tie
 
-abbrev invariant-loop : tie.invariant-loop
+abbrev invariant-loop : tie.invariant-loop-left
 invariant-loop page at n i₀ left₀ i left = (i + left ≤ 8589934592) × (zeros_from page i left ≡ zeros_from page at n)
 
-abbrev decreases-loop : tie.decreases-loop
+abbrev decreases-loop : tie.decreases-loop-left
 decreases-loop page at n i₀ left₀ i left = left
 
 pub zeros_from_spec : {M : Type 1} → statement M

@@ -11,10 +11,10 @@ use Rattle.sweeps.proofs.Laws.Marks.{sweep_first, sweep_done, sweep_lost, sweep_
 use Rattle.sweeps.proofs.calcs.astray.Statement.{statement}
 use Rattle.sweeps.proofs.calcs.astray.Tie as tie
 
-abbrev invariant-loop : tie.invariant-loop
+abbrev invariant-loop : tie.invariant-loop-left
 invariant-loop table file marks₀ p₀ left₀ marks p left = (p + left ≤ 65536) × (length marks ≡ length marks₀) × (sweep_on (head_walks table file) (run p left) marks ≡ sweep_on (head_walks table file) (run 1 (pages table)) marks₀)
 
-abbrev decreases-loop : tie.decreases-loop
+abbrev decreases-loop : tie.decreases-loop-left
 decreases-loop table file marks₀ p₀ left₀ marks p left = left
 
 pub astray_spec : {M : Type 1} → statement M

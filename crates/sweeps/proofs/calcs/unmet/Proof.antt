@@ -9,10 +9,10 @@ use Rattle.sweeps.proofs.Laws.Marks.{first_codes, first_none, first_here, first_
 use Rattle.sweeps.proofs.calcs.unmet.Statement.{statement}
 use Rattle.sweeps.proofs.calcs.unmet.Tie as tie
 
-abbrev invariant-loop : tie.invariant-loop
+abbrev invariant-loop : tie.invariant-loop-left
 invariant-loop table file marks code₀ left₀ code left = (code + left ≤ 4194304) × (first_of (calc_unmet_in table file marks) (run code left) ≡ first_of (calc_unmet_in table file marks) (run 64 (64 * pages table)))
 
-abbrev decreases-loop : tie.decreases-loop
+abbrev decreases-loop : tie.decreases-loop-left
 decreases-loop table file marks code₀ left₀ code left = left
 
 pub unmet_spec : {M : Type 1} → statement M

@@ -6,10 +6,10 @@ use Rattle.sweeps.proofs.Laws.Calcs.{calc_first, calc_spent, calc_home, calc_los
 use Rattle.sweeps.proofs.calcs.walk_home.Statement.{statement}
 use Rattle.sweeps.proofs.calcs.walk_home.Tie as tie
 
-abbrev invariant-loop : tie.invariant-loop
+abbrev invariant-loop : tie.invariant-loop-left
 invariant-loop table file marks₀ p head at₀ left₀ marks at left = (length marks ≡ length marks₀) × (calc_walk_on left table file p at marks ≡ head_walks table file p marks₀)
 
-abbrev decreases-loop : tie.decreases-loop
+abbrev decreases-loop : tie.decreases-loop-left
 decreases-loop table file marks₀ p head at₀ left₀ marks at left = left
 
 pub walk_home_spec : {M : Type 1} → statement M

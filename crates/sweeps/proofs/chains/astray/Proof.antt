@@ -10,10 +10,10 @@ use Rattle.sweeps.proofs.Laws.Marks.{sweep_done, sweep_lost, sweep_next}
 use Rattle.sweeps.proofs.chains.astray.Statement.{statement}
 use Rattle.sweeps.proofs.chains.astray.Tie as tie
 
-abbrev invariant-loop : tie.invariant-loop
+abbrev invariant-loop : tie.invariant-loop-left
 invariant-loop file ends marks₀ pages code₀ left₀ marks code left = (code + left ≤ 4194304) × (length marks ≡ length marks₀) × (sweep_on (code_walks file ends) (run code left) marks ≡ sweep_on (code_walks file ends) (run 64 (64 * pages)) marks₀)
 
-abbrev decreases-loop : tie.decreases-loop
+abbrev decreases-loop : tie.decreases-loop-left
 decreases-loop file ends marks₀ pages code₀ left₀ marks code left = left
 
 pub astray_spec : {M : Type 1} → statement M

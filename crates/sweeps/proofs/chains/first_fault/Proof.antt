@@ -10,10 +10,10 @@ use Rattle.sweeps.proofs.Laws.Chains.{ring_first}
 use Rattle.sweeps.proofs.chains.first_fault.Statement.{statement}
 use Rattle.sweeps.proofs.chains.first_fault.Tie as tie
 
-abbrev invariant-loop : tie.invariant-loop
+abbrev invariant-loop : tie.invariant-loop-chains_left
 invariant-loop table file j₀ chains-left₀ j chains-left = (j + chains-left ≤ 65535) × (first_fault (chain_fault_in table file) (run j chains-left) ≡ ring_fault_in table file)
 
-abbrev decreases-loop : tie.decreases-loop
+abbrev decreases-loop : tie.decreases-loop-chains_left
 decreases-loop table file j₀ chains-left₀ j chains-left = chains-left
 
 pub first_fault_spec : {M : Type 1} → statement M

@@ -8,10 +8,10 @@ use Rattle.sweeps.proofs.Laws.Marks.{first_none, first_here, first_next}
 use Rattle.sweeps.proofs.chains.unmet.Statement.{statement}
 use Rattle.sweeps.proofs.chains.unmet.Tie as tie
 
-abbrev invariant-loop : tie.invariant-loop
+abbrev invariant-loop : tie.invariant-loop-left
 invariant-loop file detail marks pages code₀ left₀ code left = (code + left ≤ 4194304) × (first_of (unmet_in file detail marks) (run code left) ≡ first_of (unmet_in file detail marks) (run 64 (64 * pages)))
 
-abbrev decreases-loop : tie.decreases-loop
+abbrev decreases-loop : tie.decreases-loop-left
 decreases-loop file detail marks pages code₀ left₀ code left = left
 
 pub unmet_spec : {M : Type 1} → statement M

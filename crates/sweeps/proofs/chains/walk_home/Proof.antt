@@ -8,10 +8,10 @@ use Rattle.sweeps.proofs.Laws.Chains.{walk_first}
 use Rattle.sweeps.proofs.chains.walk_home.Statement.{statement}
 use Rattle.sweeps.proofs.chains.walk_home.Tie as tie
 
-abbrev invariant-loop : tie.invariant-loop
+abbrev invariant-loop : tie.invariant-loop-left
 invariant-loop file ends marks₀ m last₀ at₀ left₀ marks last at left = (length marks ≡ length marks₀) × (walk_on left (met_in file ends) (back_home file ends m) m last at marks ≡ walk_home file ends m marks₀)
 
-abbrev decreases-loop : tie.decreases-loop
+abbrev decreases-loop : tie.decreases-loop-left
 decreases-loop file ends marks₀ m last₀ at₀ left₀ marks last at left = left
 
 pub walk_home_spec : {M : Type 1} → statement M

@@ -7,10 +7,10 @@ use Rattle.twins.proofs.Laws.Sorting.{copying, copy_start, copy_next, copy_end}
 use Rattle.twins.proofs.sorting.copy.Statement.{statement}
 use Rattle.twins.proofs.sorting.copy.Tie as tie
 
-abbrev invariant-loop : tie.invariant-loop
+abbrev invariant-loop : tie.invariant-loop-i
 invariant-loop from to₀ i₀ to i = (length to ≡ length to₀) × (copying from to i ≡ fitted (length to₀) from)
 
-abbrev decreases-loop : tie.decreases-loop
+abbrev decreases-loop : tie.decreases-loop-i
 decreases-loop from to₀ i₀ to i = length to₀ - i
 
 pub copy_spec : {M : Type 1} → statement M

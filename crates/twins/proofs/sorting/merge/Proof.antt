@@ -8,12 +8,12 @@ use Rattle.twins.proofs.Laws.Sorting.{merging, merge_start, merge_second, merge_
 use Rattle.twins.proofs.sorting.merge.Statement.{statement}
 use Rattle.twins.proofs.sorting.merge.Tie as tie
 
-abbrev invariant-loop : tie.invariant-loop
+abbrev invariant-loop : tie.invariant-loop-i
 invariant-loop table file first second out₀ i₀ k₀ out i k =
     (i + k ≤ length out₀) × (length out ≡ length out₀)
     × (merging (goes_before table file) first second out i k ≡ merged (goes_before table file) (length out₀) first second)
 
-abbrev decreases-loop : tie.decreases-loop
+abbrev decreases-loop : tie.decreases-loop-i
 decreases-loop table file first second out₀ i₀ k₀ out i k = length out₀ - (i + k)
 
 pub merge_spec : {M : Type 1} → statement M

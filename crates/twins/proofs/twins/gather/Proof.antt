@@ -8,12 +8,12 @@ use Rattle.twins.proofs.Laws.Twins.{gathering, gather_start, gather_none, gather
 use Rattle.twins.proofs.twins.gather.Statement.{statement}
 use Rattle.twins.proofs.twins.gather.Tie as tie
 
-abbrev invariant-loop : tie.invariant-loop
+abbrev invariant-loop : tie.invariant-loop-left
 invariant-loop table file list₀ n₀ code₀ left₀ list n code left =
     (code + left < 4294967296) × (length list ≡ length list₀)
     × (gathering table file list n code left ≡ gather_on table file list₀)
 
-abbrev decreases-loop : tie.decreases-loop
+abbrev decreases-loop : tie.decreases-loop-left
 decreases-loop table file list₀ n₀ code₀ left₀ list n code left = left
 
 pub gather_spec : {M : Type 1} → statement M

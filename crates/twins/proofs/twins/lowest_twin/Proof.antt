@@ -8,10 +8,10 @@ use Rattle.twins.proofs.Laws.Twins.{looking, looking_start, looking_next, lookin
 use Rattle.twins.proofs.twins.lowest_twin.Statement.{statement}
 use Rattle.twins.proofs.twins.lowest_twin.Tie as tie
 
-abbrev invariant-loop : tie.invariant-loop
+abbrev invariant-loop : tie.invariant-loop-i
 invariant-loop table file list lowest₀ i₀ lowest i = (0 < i) × (looking table file list lowest i ≡ lowest_from table file 0 list)
 
-abbrev decreases-loop : tie.decreases-loop
+abbrev decreases-loop : tie.decreases-loop-i
 decreases-loop table file list lowest₀ i₀ lowest i = length list - i
 
 pub lowest_twin_spec : {M : Type 1} → statement M
