@@ -1,7 +1,7 @@
 -- A new data file and its table are put in place whole or not at all: after a cut anywhere, and after cuts of the starts that follow.
 use Prim.Native.Nat.{ℕ, zero, suc, ◌-◌}
 use mathlib.Core.Path.{◌≡◌, refl, sym, ◌∙◌, ap}
-use mathlib.Core.Logic.{◌⊎◌, inl, inr}
+use mathlib.Core.Logic.{inl, inr}
 use mathlib.Core.Bool.{true, false}
 use mathlib.Core.List.{List, [], ◌∷◌, ◌++◌, append-nil}
 use native.Mathlib.Omega.{arith}

@@ -1,5 +1,5 @@
 -- Input as it comes: a byte is held, or ends a line that is played.
-use Rattle.std.specs.Prelude.{ℕ, ◌+◌, ◌-◌, cond, List, length, drop, set, eqb, ltb, leb}
+use Rattle.std.specs.Prelude.{ℕ, ◌+◌, ◌-◌, cond, List, length, set, eqb, ltb, leb}
 use borrow.Rule.Slice.PartMut.{put_mid}
 use Rattle.ledger.specs.Numbers.{part}
 use Rattle.line_model.specs.declared.Played.{Played}

@@ -2,7 +2,6 @@
 use Rattle.std.specs.Prelude.{ℕ, zero, suc, ◌+◌, ◌*◌, ◌/◌, cond, List, length, get_or, set, replicate, eqb, ltb}
 use borrow.Rule.Slice.PartMut.{put_mid}
 use Rattle.ledger.specs.declared.Answer.{Answer}
-use Rattle.ledger.specs.declared.Outcome.{Outcome}
 use Rattle.ledger.specs.Answers.{refused_with}
 use Rattle.ledger.specs.Currency.{unset}
 use Rattle.ledger.specs.Numbers.{part}

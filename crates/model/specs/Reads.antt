@@ -1,5 +1,5 @@
 -- What is read in any bytes `f`: 0, or no bytes, where it is not there.
-use Rattle.std.specs.Prelude.{ℕ, ◌+◌, ◌*◌, ◌-◌, cond, List, [], length, eqb, ltb}
+use Rattle.std.specs.Prelude.{ℕ, ◌+◌, cond, List, [], length, eqb, ltb}
 use Rattle.ledger.specs.Numbers.{part}
 use Rattle.ledger.specs.Table.{row, data_len}
 use Rattle.ledger.specs.Pages.{page_of, line_of, calc_at, link_at}

@@ -1,6 +1,6 @@
 -- What the journal's functions promise together: a loop that performs what is due writes what the call writes, and what recovery writes.
 use Prim.Native.Nat.{ℕ, ◌≤◌}
-use mathlib.Core.Path.{◌≡◌, sym, ◌∙◌, ap}
+use mathlib.Core.Path.{◌≡◌, ◌∙◌}
 use mathlib.Core.List.{List, map}
 use lib.ListN.{length, take}
 use Rattle.ledger.specs.declared.Due.{Due}

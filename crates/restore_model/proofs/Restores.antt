@@ -1,6 +1,6 @@
 -- What the journal's recovery computes is `recovery`.
 use Prim.Native.Nat.{ℕ, ◌*◌, ◌-◌, ◌≤◌, ◌<◌}
-use mathlib.Core.Path.{◌≡◌, refl, sym, ◌∙◌, ap}
+use mathlib.Core.Path.{◌≡◌, sym, ◌∙◌, ap}
 use mathlib.Core.Bool.{cond}
 use mathlib.Core.List.{List, [], ◌∷◌, ◌++◌}
 use native.Mathlib.Omega.{arith}
@@ -12,7 +12,7 @@ use borrow.Author.Tests.{eq-eqb, ne_eqb, le-ltb, ltb-false}
 use Rattle.ledger.specs.Numbers.{elem}
 use Rattle.ledger.proofs.Lists.Tests.{by_cases, same_or_not}
 use Rattle.model.specs.Moves.{part_put}
-use Rattle.ledger.specs.Journal.Writes.{Write, clear, Disk, disk, performed}
+use Rattle.ledger.specs.Journal.Writes.{Write, clear, disk, performed}
 use Rattle.ledger.specs.Journal.Recovery.{Line, Group, finished, imaged, readied, wrong, last_group, Recovery, refuse, restore, recovery_of, recovery}
 use Rattle.journal_laws.proofs.RecoveryWrites.{stored_clear, file_left}
 use Rattle.restore_model.specs.Texts.{pages_in}

@@ -11,7 +11,7 @@ use Rattle.ledger.specs.declared.Outcome.{Outcome}
 use Rattle.ledger.specs.Table.{Accepted}
 use Rattle.ledger.specs.Pages.{Ledger, Sound}
 use Rattle.ledger.specs.Currency.{InForce}
-use Rattle.ledger.specs.Calls.{Turn, refuse, done, direct, key, current, find, next, prior, master, each, read, turn, DIRECT, KEY, NEXT, PRIOR, MASTER, EACH, CURRENT, FIND, UNKNOWN}
+use Rattle.ledger.specs.Calls.{Turn, refuse, direct, key, current, find, next, prior, master, each, read, turn, DIRECT, KEY, NEXT, PRIOR, MASTER, EACH, CURRENT, FIND, UNKNOWN}
 use Rattle.ledger.specs.Promise.{Checks, Plays, Reads, told, turn_of}
 use Rattle.ledger.proofs.Lists.Tests.{by_cases}
 use Rattle.ledger.proofs.Image.Unique.{sound_unique}

@@ -1,7 +1,7 @@
 -- Demand 1 of the models: a call comes back done, or with one of its refusals and nothing changed.
 use Prim.Native.Nat.{ℕ, ◌*◌}
 use mathlib.Core.Path.{◌≡◌, refl}
-use mathlib.Core.Bool.{Bool, true, cond, not, ◌&&◌, ◌||◌, or-true}
+use mathlib.Core.Bool.{Bool, true, cond, not, ◌||◌}
 use mathlib.Core.List.{List, [], ◌∷◌}
 use lib.ListN.{length}
 use lib.Dec.{eqb, ltb, leb}
@@ -24,8 +24,7 @@ use Rattle.model.specs.declared.Fault.TheVariants.{Nowhere, Page, Ring, Order}
 use Rattle.model.specs.declared.Found.{Found}
 use Rattle.audit_model.specs.Faults.{first_place, audit_on, fault_number}
 use Rattle.look_model.specs.Looks.{direct_on, reached_on, found_on, key_on, current_on, find_on, on_chain, along_on, next_on, prior_on, master_on, each_on, read_on}
-use Rattle.act_model.specs.Placing.{place_for_in}
-use Rattle.act_model.specs.Storing.{lacks_current, store_twin, store_refusal, stored_on}
+use Rattle.act_model.specs.Storing.{lacks_current, store_twin, store_refusal}
 use Rattle.act_model.specs.Relinking.{masters_in, relink_refusal}
 use Rattle.act_model.specs.Modifying.{modify_twin, modify_refusal}
 use Rattle.delete_model.specs.Deletes.{deleted_with, decided_on, deleted_from, delete_on}

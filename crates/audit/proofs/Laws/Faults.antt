@@ -3,7 +3,6 @@ use Prim.Native.Nat.{ℕ}
 use mathlib.Core.Path.{◌≡◌}
 use mathlib.Core.List.{List}
 use borrow.Author.Tests.{eq-eqb, ne_eqb}
-use Rattle.model.specs.declared.Fault.{Fault}
 use Rattle.model.specs.declared.Fault.TheVariants.{Nowhere, Page, Ring, Order}
 use Rattle.audit_model.specs.Scan.{scan}
 use Rattle.audit_model.specs.Calcs.{calc_fault_in}

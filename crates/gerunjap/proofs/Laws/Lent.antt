@@ -11,7 +11,7 @@ use Rattle.ledger.specs.declared.Outcome.{Outcome}
 use Rattle.ledger.specs.declared.Currency.{Currency}
 use Rattle.ledger.specs.Player.{call_made}
 use Rattle.model.specs.Moves.{part_put}
-use Rattle.play_model.specs.Plays.{Played, play_on}
+use Rattle.play_model.specs.Plays.{play_on}
 use Rattle.gerunjap_model.specs.Lent.{sixteen_of, currency_of, currency_put, answer_put8, answered, call_on}
 
 -- code_at

@@ -1,5 +1,5 @@
 -- Bytes of a record's length that say its fields are its bytes.
-use Prim.Native.Nat.{ℕ, ◌+◌, ◌-◌, ◌≤◌, ◌<◌}
+use Prim.Native.Nat.{ℕ, ◌+◌, ◌≤◌, ◌<◌}
 use mathlib.Core.Path.{◌≡◌, sym, ◌∙◌}
 use mathlib.Core.Bool.{true, cond}
 use mathlib.Core.List.{List, [], ◌++◌, append_assoc, append-nil}

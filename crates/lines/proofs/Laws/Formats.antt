@@ -1,9 +1,9 @@
 -- Frame 00.
 use Prim.Native.Nat.{ℕ, zero, suc, ◌+◌, ◌*◌, ◌-◌, ◌/◌, ◌≤◌, ◌<◌}
 use native.Mathlib.Omega.{arith}
-use mathlib.Core.Path.{◌≡◌, ◌∙◌, sym, refl, ap}
+use mathlib.Core.Path.{◌≡◌, ◌∙◌, sym, refl}
 use mathlib.Core.Bool.{Bool, true, false, not}
-use mathlib.Core.List.{List, [], ◌∷◌}
+use mathlib.Core.List.{List}
 use lib.ListN.{length, get_or, take, drop, set, replicate}
 use lib.Seq.{set_out}
 use borrow.Author.Tests.{eq-eqb, ne_eqb, lt-ltb, le-ltb, not-true, not-false}
@@ -13,7 +13,6 @@ use Rattle.ledger.specs.declared.Currency.{Currency}
 use Rattle.ledger.specs.declared.Outcome.{Outcome}
 use Rattle.ledger.specs.Answers.{refused_with}
 use Rattle.ledger.specs.Currency.{unset}
-use Rattle.ledger.specs.Bytes.{two_at}
 use Rattle.ledger.specs.Table.{pages}
 use Rattle.ledger.specs.Rules.{accepts}
 use Rattle.page.proofs.Laws.Bytes.{two_past}

@@ -11,7 +11,7 @@ use lib.Dec.{eqb}
 use Rattle.ledger.specs.declared.Answer.{Answer}
 use Rattle.ledger.specs.declared.Currency.{Currency}
 use Rattle.ledger.specs.declared.Outcome.{Outcome}
-use Rattle.ledger.specs.Table.{types, chains, row, in_chain}
+use Rattle.ledger.specs.Table.{chains, row, in_chain}
 use Rattle.ledger.specs.Answers.{done_with, outcome}
 use Rattle.ledger.specs.Currency.{type_current}
 use Rattle.model.specs.Reads.{kind_in}

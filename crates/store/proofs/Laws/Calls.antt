@@ -10,7 +10,7 @@ use Rattle.ledger.specs.Answers.{done_with, outcome, refusal}
 use Rattle.ledger.specs.Currency.{unset}
 use Rattle.model.specs.Moves.{file_made}
 use Rattle.store_model.specs.Checks.{size_refusal, refusal_on}
-use Rattle.store_model.specs.Changes.{Changed, changed_unless}
+use Rattle.store_model.specs.Changes.{Changed}
 use Rattle.store_model.specs.Calls.{checked, checked_with, format_call}
 use Rattle.store.proofs.Laws.Changes.{unless_refused, unless_done}
 

@@ -1,7 +1,7 @@
 use borrow.Author.Rules.{rules}
 use Prim.Native.Nat.{◌-◌}
 use mathlib.Core.Path.{◌≡◌}
-use lib.ListN.{length, get_or}
+use lib.ListN.{length}
 use Rattle.line_model.specs.Formats.{fill_from, word_in, words_in}
 use Rattle.lines.proofs.Laws.Formats.{words_first, fill_on, fill_past}
 use Rattle.lines.proofs.format.take_words.Statement.{statement}
