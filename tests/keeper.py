@@ -7,6 +7,7 @@ independent program says what is due.
 
     python3 tests/keeper.py [--keeper PROGRAM] [--kills 300] [--seed 4]
 
+The program is what `rt ci`, or `rt run` in crates/keeper, leaves in crates/keeper/out.
 The seed does not fix when a kill comes.
 """
 
@@ -65,7 +66,7 @@ def counts(seen):
 def main():
     """All parts, and what they met."""
     options = argparse.ArgumentParser(description=__doc__.split("\n")[0])
-    options.add_argument("--keeper", default=str(ROOT / "target/bin/keeper"))
+    options.add_argument("--keeper", default=str(ROOT / "crates/keeper/out/keeper"))
     options.add_argument("--kills", type=int, default=300)
     options.add_argument("--seed", type=int, default=4)
     asked = options.parse_args()

@@ -1,65 +1,48 @@
 // The data file and the journal on the disk. Each write has reached it before the next is begun.
 use page::room;
+use std::fs::File;
+use std::io;
+use std::io::{Error, ErrorKind, Seek, Write};
+use std::os::unix::fs::FileExt;
 
-// The descriptors (data -1 before there is a data file), the data file's size and the journal's length; `good` until a write fails.
-#[derive(Clone, Copy)]
+// The open files (no data file before there is one), the data file's size and the journal's length. Once a write has failed, nothing more
+// is written.
+#[derive(Drop)]
 pub struct Disk {
-    pub data: i32,
-    pub journal: i32,
+    pub data: Option<File>,
+    pub journal: File,
     pub size: usize,
     pub written: usize,
-    pub good: bool,
-}
-
-// The same disk after a write, and whether it went well.
-pub(crate) fn after(d: Disk, written: usize, good: bool) -> Disk {
-    Disk {
-        data: d.data,
-        journal: d.journal,
-        size: d.size,
-        written,
-        good,
-    }
-}
-
-// Waits until a file's bytes have reached the disk; whether they have.
-pub(crate) fn sync(fd: i32) -> bool {
-    libc::fdatasync(fd) == 0
 }
 
 // A line at the journal's end.
-pub(crate) fn append(d: Disk, line: &[u8]) -> Disk {
-    if !io::write_all(d.journal, line) {
-        return after(d, d.written, false);
-    }
-    let length = std::num::wrapping_add_usize(d.written, line.len());
-    after(d, length, sync(d.journal))
+pub(crate) fn append(d: &mut Disk, line: &[u8]) -> io::Result<()> {
+    d.journal.write_all(line)?;
+    d.written = d.written.wrapping_add(line.len());
+    d.journal.sync_data()
 }
 
 // Page `page` of `file` over the old one.
-pub(crate) fn store(d: Disk, file: &[u8], page: usize) -> Disk {
-    if page == 0 {
-        return after(d, d.written, false);
-    }
-    if 128 < page {
-        return after(d, d.written, false);
+pub(crate) fn store(d: &Disk, file: &[u8], page: usize) -> io::Result<()> {
+    let Some(data) = &d.data else {
+        return Err(Error::new(ErrorKind::NotFound, "there is no data file"));
+    };
+    if page == 0 || 128 < page {
+        return Err(Error::new(ErrorKind::InvalidInput, "there is no such page"));
     }
     let number = page as u32;
     let start = 512 * (number - 1);
-    let put = libc::pwrite(d.data, room::page_of(file, number), start as i64);
+    let put = data.write_at(room::page_of(file, number), start as u64)?;
     if put != 512 {
-        return after(d, d.written, false);
+        return Err(Error::new(ErrorKind::WriteZero, "a page was not written whole"));
     }
-    after(d, d.written, sync(d.data))
+    data.sync_data()
 }
 
 // The journal emptied.
-pub(crate) fn empty(d: Disk) -> Disk {
-    if libc::ftruncate(d.journal, 0) != 0 {
-        return after(d, d.written, false);
-    }
-    if libc::lseek(d.journal, 0, libc::SEEK_SET) != 0 {
-        return after(d, 0, false);
-    }
-    after(d, 0, sync(d.journal))
+pub(crate) fn empty(d: &mut Disk) -> io::Result<()> {
+    d.journal.set_len(0)?;
+    d.journal.rewind()?;
+    d.written = 0;
+    d.journal.sync_data()
 }

@@ -4,104 +4,78 @@
 // a name of its own: once it has its line end, the new file is the one in force, and a start makes it again. The data file is written, and last
 // the line takes the table's name.
 use crate::disk::Disk;
-use crate::{disk, names};
+use crate::{disk, files, names};
 use page::bytes;
+use std::fs::File;
+use std::io;
+use std::io::{Seek, Write};
 
 // A line, and then its line end, each on the disk before the next.
-fn write_line(fd: i32, line: &[u8]) -> bool {
-    if !io::write_all(fd, line) {
-        return false;
-    }
-    if !disk::sync(fd) {
-        return false;
-    }
-    if !io::write_all(fd, b"\n") {
-        return false;
-    }
-    disk::sync(fd)
+fn write_line(file: &mut File, line: &[u8]) -> io::Result<()> {
+    file.write_all(line)?;
+    file.sync_data()?;
+    file.write_all(b"\n")?;
+    file.sync_data()
 }
 
 // The new table beside the data file.
-fn write_next(name: &[u8], line: &[u8]) -> bool {
-    let mut path = io::buffer();
+fn write_next(rt: &HostRuntime, name: &[u8], line: &[u8]) -> io::Result<()> {
+    let mut path = [0u8; names::PATH];
     let n = names::of_next(name, &mut path);
-    let fd = os::open_overwrite(bytes::part_of(&path, 0, n));
-    if fd < 0 {
-        return false;
-    }
-    let written = write_line(fd, line);
-    libc::close(fd);
-    if !written {
-        return false;
-    }
-    names::sync_folder(name)
+    let mut next = files::open_overwrite(rt, bytes::part_of(&path, 0, n))?;
+    write_line(&mut next, line)?;
+    drop(next);
+    names::sync_folder(rt, name)
 }
 
-// A descriptor of the data file, which is made where it is missing.
-fn open_data(name: &[u8]) -> i32 {
-    let fd = os::open_update(name);
-    if fd < 0 {
-        return os::create(name);
+// The data file, which is made where it is missing.
+fn open_data(rt: &HostRuntime, name: &[u8]) -> io::Result<File> {
+    match files::open_update(rt, name) {
+        Ok(data) => Ok(data),
+        Err(_) => files::create(rt, name),
     }
-    fd
 }
 
 // The whole data file written.
-fn write_data(fd: i32, file: &[u8]) -> bool {
-    if libc::ftruncate(fd, 0) != 0 {
-        return false;
-    }
-    if libc::lseek(fd, 0, libc::SEEK_SET) != 0 {
-        return false;
-    }
-    if !io::write_all(fd, file) {
-        return false;
-    }
-    disk::sync(fd)
+fn write_data(data: &mut File, file: &[u8]) -> io::Result<()> {
+    data.set_len(0)?;
+    data.rewind()?;
+    data.write_all(file)?;
+    data.sync_data()
 }
 
 // The new table takes the place of the old one.
-fn rename_table(name: &[u8]) -> bool {
-    let mut from = io::buffer();
+fn rename_table(rt: &HostRuntime, name: &[u8]) -> io::Result<()> {
+    let mut from = [0u8; names::PATH];
     let n = names::of_next(name, &mut from);
-    let mut to = io::buffer();
+    let mut to = [0u8; names::PATH];
     let m = names::of_table(name, &mut to);
-    if os::rename(bytes::part_of(&from, 0, n), bytes::part_of(&to, 0, m)) != 0 {
-        return false;
-    }
-    names::sync_folder(name)
+    files::rename(rt, bytes::part_of(&from, 0, n), bytes::part_of(&to, 0, m))?;
+    names::sync_folder(rt, name)
 }
 
 // The new table is in force: makes the data file under it, and gives it its name.
-pub(crate) fn finish(name: &[u8], d: Disk, file: &[u8]) -> Disk {
-    let fd = if d.data < 0 { open_data(name) } else { d.data };
-    let made = Disk {
-        data: fd,
-        journal: d.journal,
-        size: file.len(),
-        written: d.written,
-        good: d.good,
+pub(crate) fn finish(rt: &HostRuntime, name: &[u8], d: &mut Disk, file: &[u8]) -> io::Result<()> {
+    let mut data = match d.data.take() {
+        Some(data) => data,
+        None => open_data(rt, name)?,
     };
-    if fd < 0 {
-        return disk::after(made, d.written, false);
-    }
-    if !write_data(fd, file) {
-        return disk::after(made, d.written, false);
-    }
-    if !names::sync_folder(name) {
-        return disk::after(made, d.written, false);
-    }
-    disk::after(made, d.written, rename_table(name))
+    write_data(&mut data, file)?;
+    d.data = Some(data);
+    d.size = file.len();
+    names::sync_folder(rt, name)?;
+    rename_table(rt, name)
 }
 
 // Puts `file` in place, made by the frame 00 on a line.
-pub(crate) fn put_in_place(name: &[u8], d: Disk, line: &[u8], file: &[u8]) -> Disk {
-    let emptied = disk::empty(d);
-    if !emptied.good {
-        return emptied;
-    }
-    if !write_next(name, line) {
-        return disk::after(emptied, 0, false);
-    }
-    finish(name, emptied, file)
+pub(crate) fn put_in_place(
+    rt: &HostRuntime,
+    name: &[u8],
+    d: &mut Disk,
+    line: &[u8],
+    file: &[u8],
+) -> io::Result<()> {
+    disk::empty(d)?;
+    write_next(rt, name, line)?;
+    finish(rt, name, d, file)
 }

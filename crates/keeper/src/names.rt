@@ -1,7 +1,13 @@
 // The names that belong to a data file: those of the files beside it, and its folder's.
+use crate::files;
 use change::copies;
 use page::bytes;
+use std::fs::File;
+use std::io;
 use table::keys;
+
+// Room for any path.
+pub const PATH: usize = 4096;
 
 // The longest name of a data file: an ending and a path's last 0 fit behind it.
 pub const LONGEST: usize = 4000;
@@ -27,9 +33,9 @@ pub(crate) fn of_next(name: &[u8], path: &mut [u8]) -> usize {
 
 // Whether `other` is the name of the data file, or one of those that belong to it.
 pub(crate) fn is_of(name: &[u8], other: &[u8]) -> bool {
-    let mut table = io::buffer();
+    let mut table = [0u8; PATH];
     let n = of_table(name, &mut table);
-    let mut next = io::buffer();
+    let mut next = [0u8; PATH];
     let m = of_next(name, &mut next);
     if keys::same_key(bytes::part_of(&table, 0, n), other) {
         return true;
@@ -53,21 +59,16 @@ fn folder_in(name: &[u8]) -> usize {
 }
 
 // The folder of a name, the present one where it names none.
-fn open_folder(name: &[u8]) -> i32 {
+fn open_folder(rt: &HostRuntime, name: &[u8]) -> io::Result<File> {
     let n = folder_in(name);
     if n == 0 {
-        return os::open_read(b".");
+        return files::open_read(rt, b".");
     }
-    os::open_read(bytes::part_of(name, 0, n))
+    files::open_read(rt, bytes::part_of(name, 0, n))
 }
 
-// Waits until names made or changed in the folder of `name` have reached the disk; whether they have.
-pub(crate) fn sync_folder(name: &[u8]) -> bool {
-    let folder = open_folder(name);
-    if folder < 0 {
-        return false;
-    }
-    let synced = libc::fsync(folder);
-    libc::close(folder);
-    synced == 0
+// Waits until names made or changed in the folder of `name` have reached the disk.
+pub(crate) fn sync_folder(rt: &HostRuntime, name: &[u8]) -> io::Result<()> {
+    let folder = open_folder(rt, name)?;
+    folder.sync_all()
 }

@@ -4,6 +4,8 @@ use crate::disk::Disk;
 use change::copies;
 use ledger::Due;
 use page::bytes;
+use std::io;
+use std::io::Error;
 
 // The longest line of a journal.
 const LINE: usize = 1029;
@@ -15,7 +17,7 @@ const LONG: usize = 65536;
 const TURNS: u16 = 300;
 
 // The write that is due.
-fn perform(d: Disk, before: &[u8], after: &[u8], due: Due) -> Disk {
+fn perform(d: &mut Disk, before: &[u8], after: &[u8], due: Due) -> io::Result<()> {
     if due.phase == plan::STORE {
         return disk::store(d, after, due.page);
     }
@@ -32,50 +34,41 @@ fn perform(d: Disk, before: &[u8], after: &[u8], due: Due) -> Disk {
 
 // All writes from the first on, until one fails.
 pub(crate) fn carry_out(
-    start: Disk,
+    d: &mut Disk,
     marks: &[u8],
     before: &[u8],
     after: &[u8],
     first: Due,
-) -> Disk {
-    let mut d = start;
+) -> io::Result<()> {
     let mut due = first;
-    let mut left = TURNS;
-    while 0 < left {
+    for _ in 0..TURNS {
         if due.phase == plan::NOTHING {
-            return d;
+            return Ok(());
         }
-        if !d.good {
-            return d;
-        }
-        d = perform(d, before, after, due);
+        perform(d, before, after, due)?;
         due = plan::next(marks, due);
-        left -= 1;
     }
-    disk::after(d, d.written, false)
+    Err(Error::other("more writes than a call can have"))
 }
 
 // The journal emptied where it has grown long: every call in it is done.
-fn shorten(d: Disk) -> Disk {
+fn shorten(d: &mut Disk) -> io::Result<()> {
     if d.written <= LONG {
-        return d;
-    }
-    if !d.good {
-        return d;
+        return Ok(());
     }
     disk::empty(d)
 }
 
 // What a call changed from `before` to `after`; then `before` is `after`.
-pub(crate) fn keep(d: Disk, before: &mut [u8], after: &[u8]) -> Disk {
+pub(crate) fn keep(d: &mut Disk, before: &mut [u8], after: &[u8]) -> io::Result<()> {
     let mut space = [0u8; 128];
     let n = plan::mark(before, after, &mut space);
     let marks = bytes::part_of(&space, 0, n as usize);
     let first = plan::first_of_call(marks);
     if first.phase == plan::NOTHING {
-        return d;
+        return Ok(());
     }
-    let kept = carry_out(d, marks, before, after, first);
+    carry_out(d, marks, before, after, first)?;
     copies::put_part(before, 0, after);
-    shorten(kept)
+    shorten(d)
 }
