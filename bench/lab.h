@@ -12,7 +12,7 @@ enum { RACK_BOARDS, LOT_BOARDS, BOARD_CAPTURES };                   /* chains */
 enum { RACK_DATA = 8, LOT_DATA = 6, BOARD_DATA = 12, CAPTURE_DATA = 16, RACK_KEY = 6, SLOT = 2 };
 enum { MOST_PAGES = 128, PAGE = 512, MOST_RECORDS = MOST_PAGES * 63, FRAME = 256 };
 
-/* What crate raw exports; see crates/raw/src/lib.rt. */
+/* What crate raw exports; see crates/raw_c/src/lib.rt. */
 uint8_t gerunjap_check(const uint16_t *table, size_t table_words, const uint8_t *file, size_t file_bytes, const uint32_t *currency,
                        size_t currency_words);
 uint8_t gerunjap_raw(const uint16_t *table, size_t table_words, uint8_t *file, size_t file_bytes, uint32_t *currency,

@@ -3,7 +3,7 @@
 The three play one session with every call by name. Also, the refusals have the same words in all three. The example in C on real
 files goes on over several starts, one of them after a call that was cut before its done line.
 
-    python3 tests/bindings.py          # needs libgerunjap.a and libjournal.a in target/staticlib, cargo and gcc
+    python3 tests/bindings.py          # needs what `tools/archives` writes, cargo and gcc
 """
 
 import difflib

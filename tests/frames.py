@@ -1,6 +1,8 @@
 """Frames through the player, compared line by line with the independent program.
 
     python3 tests/frames.py [--frames 20000] [--seed 1] [--player PROGRAM]
+
+The program is what `rt ci`, or `rt run` in crates/player, leaves in crates/player/out.
 """
 
 import argparse
@@ -61,7 +63,7 @@ def missing(told):
 def main():
     """Draws, plays on both sides, compares, and tells."""
     options = argparse.ArgumentParser(description=__doc__.split("\n")[0])
-    options.add_argument("--player", default=str(ROOT / "target/bin/player"))
+    options.add_argument("--player", default=str(ROOT / "crates/player/out/player"))
     options.add_argument("--frames", type=int, default=20000)
     options.add_argument("--seed", type=int, default=1)
     asked = options.parse_args()

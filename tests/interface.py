@@ -6,7 +6,7 @@ file, currency and output are compared after every call.
 
     python3 tests/interface.py [--calls 20000] [--seed 2] [--library LIB.so] [--damaged]
 
-Without --library the shared object is made from the archive that `rt staticlib gerunjap` writes.
+Without --library the shared object is made from the archive that `tools/archives gerunjap` writes.
 With --damaged each turn is followed by calls on damaged copies of the file, and --calls counts those.
 """
 

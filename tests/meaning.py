@@ -27,7 +27,7 @@ import ledger as ledgers  # noqa: E402
 import table as tables  # noqa: E402
 
 SPECS = ROOT / "crates" / "ledger" / "specs"
-MODULE = "Rattle·ledger.specs."
+MODULE = "Rattle.ledger.specs."
 SESSION = 14
 SESSIONS_A_FILE = 8
 TABLES_A_FILE = 40
@@ -42,24 +42,20 @@ CALL_NAMES = {
 }
 
 HEAD = """-- Written by tests/meaning.py.
-use Prim.Native.Nat.{ℕ}
-use mathlib.Core.Path.{_≡_, refl}
-use mathlib.Core.Bool.{Bool, true, false}
-use mathlib.Core.List.{List, [], _∷_, _++_}
-use lib.ListN.{replicate}
-use Rattle·ledger.specs.declared.Answer.{Answer}
-use Rattle·ledger.specs.declared.Currency.{Currency}
+use Rattle.std.specs.Prelude.{ℕ, Bool, true, false, List, [], ◌∷◌, ◌++◌, ◌≡◌, refl, replicate}
+use Rattle.ledger.specs.declared.Answer.{Answer}
+use Rattle.ledger.specs.declared.Currency.{Currency}
 """
 
 FLAT = """
 -- an answer's numbers, and where it is done the data of the run's record, which are what READ hands out
 unfoldable pub seen : Turn → List ℕ
 seen (refuse n) = n ∷ 0 ∷ 0 ∷ 0 ∷ []
-seen (done a l cur) = a .code ∷ a .reference ∷ a .kind ∷ a .count ∷ bytesAt l (cur .run)
+seen (done a l cur) = a.code ∷ a.reference ∷ a.kind ∷ a.count ∷ bytes_at l cur.run
 
 -- a session's answers, then its last currency and file
 unfoldable pub flat : List ℕ → State → List Call → List ℕ
-flat t s [] = (s .cur .run ∷ s .cur .types) ++ s .cur .chains ++ layout t (s .ledger)
+flat t s [] = (s.cur.run ∷ s.cur.types) ++ s.cur.chains ++ layout t s.ledger
 flat t s (c ∷ cs) = seen (turn t s c) ++ flat t (step t s c) cs
 """
 
@@ -150,24 +146,23 @@ def tables_text(rng, name, count, closed):
     drawn = [draw.broken_table(rng) if i % 3 else draw.table(rng) for i in range(count)]
     found = " ∷ ".join(f"accepts ({numbers(words)})" for words in drawn)
     told = " ∷ ".join("false" if tables.broken_rule(words) else "true" for words in drawn)
-    lines = f"\n{name} : _≡_ {{A = List Bool}} ({found} ∷ []) ({told} ∷ [])\n"
+    lines = f"\n{name} : ◌≡◌ {{A = List Bool}} ({found} ∷ []) ({told} ∷ [])\n"
     return lines + f"unfolding {' '.join(closed)}\n{name} = refl\n"
 
 
 def write(folder, sessions, rng):
     """A repository with the crate `ledger` and the crate `runs` that states the sessions."""
     modules, closed = definitions()
-    shutil.copytree(ROOT / "crates" / "ledger", folder / "crates" / "ledger")
-    shutil.rmtree(folder / "crates" / "ledger" / "must-fail", ignore_errors=True)
+    shutil.copytree(ROOT / "crates" / "ledger", folder / "crates" / "ledger", ignore=shutil.ignore_patterns("must-fail", "out"))
     specs = folder / "crates" / "runs" / "specs"
     specs.mkdir(parents=True)
     (folder / "crates" / "runs" / "src").mkdir()
-    (folder / "crates" / "runs" / "src" / "lib.rt").write_text("// Sessions computed by the checker.\n")
+    (folder / "crates" / "runs" / "src" / "lib.rt").write_text("// Sessions computed by the checker.\n#![tactic(auto)]\n")
     (folder / "crates.txt").write_text("ledger:\nruns: ledger\n")
     head = HEAD + uses(modules)
     (specs / "Flat.antt").write_text(head + FLAT)
     names = ["Flat"]
-    flat = "use Rattle·runs·specs.specs.Flat.{seen, flat}\n"
+    flat = "use Rattle.runs.specs.Flat.{seen, flat}\n"
     for at in range(0, len(sessions), SESSIONS_A_FILE):
         names.append(f"Run{at}")
         parts = [s.text(f"run{at + i}", closed) for i, s in enumerate(sessions[at:at + SESSIONS_A_FILE])]
@@ -209,7 +204,7 @@ def main():
     with tempfile.TemporaryDirectory() as other:
         folder = pathlib.Path(asked.keep or other)
         write(folder, sessions, rng)
-        told = subprocess.run(["rt", "check", "runs"], cwd=folder, capture_output=True, text=True)
+        told = subprocess.run(["rt", "check"], cwd=folder / "crates" / "runs", capture_output=True, text=True)
     calls = sum(len(s.calls) for s in sessions)
     good = told.returncode == 0 and not lacking
     if told.returncode:

@@ -8,7 +8,7 @@ recovered again. Then the journals are spoiled: refusal 13 with nothing changed,
     python3 tests/power.py [--cuts 100000] [--seed 3] [--library LIB.so] [--independent]
 
 Recovery is done by the independent program and by the library; every byte is compared. Without
---library the shared object is made from the archive that `rt staticlib journal` writes. With
+--library the shared object is made from the archive that `tools/archives journal` writes. With
 --independent there is no library. --cuts counts cuts of calls; those of recoveries come on top.
 """
 

@@ -1,4 +1,4 @@
-/* The chain store's C interface. Link with target/staticlib/libgerunjap.a (rt staticlib gerunjap). */
+/* The chain store's C interface. Link with target/staticlib/libgerunjap.a (tools/archives gerunjap). */
 #ifndef GERUNJAP_H
 #define GERUNJAP_H
 

@@ -1,4 +1,4 @@
-/* The journal for power loss. Link with target/staticlib/libjournal.a (rt staticlib journal). */
+/* The journal for power loss. Link with target/staticlib/libjournal.a (tools/archives journal). */
 #ifndef GERUNJAP_JOURNAL_H
 #define GERUNJAP_JOURNAL_H
 

@@ -49,7 +49,7 @@ class Answer(NamedTuple):
 
 
 def made():
-    """The shared object of the archive that `rt staticlib gerunjap` writes, made where it is missing or older."""
+    """The shared object of the archive that `tools/archives gerunjap` writes, made where it is missing or older."""
     archive, shared = ROOT / "target/staticlib/libgerunjap.a", ROOT / "target/python/libgerunjap.so"
     if not shared.exists() or shared.stat().st_mtime < archive.stat().st_mtime:
         shared.parent.mkdir(exist_ok=True)

@@ -1,4 +1,4 @@
-//! Links the archive that `rt staticlib gerunjap` writes; GERUNJAP_LIB names another folder.
+//! Links the archive that `tools/archives gerunjap` writes; GERUNJAP_LIB names another folder.
 use std::{env, path::PathBuf};
 
 fn main() {

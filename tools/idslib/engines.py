@@ -8,8 +8,8 @@ import tempfile
 from idslib.rules import Trouble
 
 ROOT = pathlib.Path(__file__).resolve().parent.parent.parent
-PLAYER = ROOT / "target/bin/player"
-KEEPER = ROOT / "target/bin/keeper"
+PLAYER = ROOT / "crates/player/out/player"
+KEEPER = ROOT / "crates/keeper/out/keeper"
 ARCHIVE = ROOT / "target/staticlib/libgerunjap.a"
 ENTRIES, OUTPUT, PAGE = 33, 200, 512
 
@@ -35,7 +35,7 @@ class Player:
         try:
             done = subprocess.run([self.program], input="\n".join(frames) + "\n", capture_output=True, text=True, check=True)
         except OSError as error:
-            raise Trouble(f"the player {self.program} cannot be run ({error.strerror}); 'rt check player' builds it") from None
+            raise Trouble(f"the player {self.program} cannot be run ({error.strerror}); 'rt run' in crates/player builds it") from None
         except subprocess.CalledProcessError as error:
             raise Trouble(f"the player ended with {error.returncode}") from None
         return done.stdout.splitlines()
@@ -49,7 +49,7 @@ class Keeper:
         try:
             self.process = subprocess.Popen([str(program), data, journal], stdin=pipe, stdout=pipe, stderr=pipe, text=True)
         except OSError as error:
-            raise Trouble(f"keeper {program} cannot be run ({error.strerror}); 'rt check keeper' builds it") from None
+            raise Trouble(f"keeper {program} cannot be run ({error.strerror}); 'rt run' in crates/keeper builds it") from None
         # Before there is a table even a READ is refused with 1.
         if self.one("0A").startswith("01"):
             self.one(format_frame)
@@ -126,7 +126,7 @@ def loaded(path):
     if path:
         return opened(path)
     if not ARCHIVE.exists():
-        raise Trouble(f"{ARCHIVE} is not there; 'rt staticlib gerunjap' builds it, or name a shared object with --shared")
+        raise Trouble(f"{ARCHIVE} is not there; 'tools/archives gerunjap' builds it, or name a shared object with --shared")
     with tempfile.TemporaryDirectory() as folder:
         made = pathlib.Path(folder) / "libgerunjap.so"
         command = ["gcc", "-shared", "-o", made, "-Wl,--whole-archive", ARCHIVE, "-Wl,--no-whole-archive"]

@@ -1,4 +1,4 @@
-// The C interface: one call on lent memory.
+// One call on lent memory; crates/gerunjap_c hands it to C.
 #![tactic(auto)]
 
 ghost use Rattle.std.specs.Prelude.{◌≡◌, get_or};
@@ -109,8 +109,7 @@ fn answer_frame(
 }
 
 // Plays one frame on a lent table, file, currency and output, and puts its answer. At any status but ANSWERED nothing is written.
-#[unsafe(no_mangle)]
-pub extern "C" fn gerunjap_call(
+pub fn gerunjap_call(
     table: &[u16],
     file: &mut [u8],
     currency: &mut [u32],

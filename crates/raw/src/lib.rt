@@ -105,8 +105,7 @@ fn play_raw(
 }
 
 // The first of refusals 1 to 4 that is due, or 0.
-#[unsafe(no_mangle)]
-pub extern "C" fn gerunjap_check(table: &[u16], file: &[u8], currency: &[u32]) -> u8
+pub fn gerunjap_check(table: &[u16], file: &[u8], currency: &[u32]) -> u8
     ensures { result ≡ check_on table.now file.now currency.now }
 {
     if currency.len() != 33 {
@@ -116,8 +115,7 @@ pub extern "C" fn gerunjap_check(table: &[u16], file: &[u8], currency: &[u32]) -
 }
 
 // As gerunjap_call, without refusals 1 to 4 but for FORMAT's. On a file that is not sound it still comes back, but its answer means nothing.
-#[unsafe(no_mangle)]
-pub extern "C" fn gerunjap_raw(
+pub fn gerunjap_raw(
     table: &[u16],
     file: &mut [u8],
     currency: &mut [u32],
