@@ -1,7 +1,7 @@
 #!/usr/bin/env python3
 """Spells the repository's own names of specs/ and proofs/ in snake case, after port.py: nextIn as next_in, next-round as next_round.
 
-usage: tools/respell.py [--dry]     (once, at the top; the tree as port.py leaves it)
+usage: tools/respell.py [--dry]     (once, at the top; the tree as port.py leaves it. Where docs/PORT.md stands it is done, and nothing is changed.)
 
 Words are in snake case, types and modules keep their capitals. Where a definition and a lemma would fall together, the lemma gets '_lem'. Functions of
 src/, strings, inputs and outputs keep their names; a name that a file imports from a library stays in that file. Must-fail edits, tests/meaning.py
@@ -9,6 +9,7 @@ and what stands between backticks in README.md and docs/ follow.
 """
 import collections
 import glob
+import os
 import re
 import sys
 
@@ -96,6 +97,8 @@ def turned(text, new, keep, antt):
 
 def main():
     dry = "--dry" in sys.argv
+    if os.path.exists("docs/PORT.md"):
+        sys.exit("tools/respell.py: docs/PORT.md stands, so the names are respelled already; nothing was changed")
     new = table()
     names = declared()
     rust = re.compile(r"^[a-z]\w*[A-Z]\w*$")

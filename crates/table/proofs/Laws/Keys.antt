@@ -30,7 +30,7 @@ module _ (t : List ℕ) (n : ℕ) (key : List ℕ) (lo hi : ℕ) (el : lo ≡ lo
   unfolding home
   home_spread h er = rw (er, el, eh)
 
--- same_key_lem and less_key: `a` and `b` from place `i` on
+-- same_key and less_key: `a` and `b` from place `i` on
 module _ (a b : List ℕ) (i : ℕ) (x : Bool) where
   pub same_short : same_key (drop i a) (drop i b) ≡ x → i < length a → length b ≤ i → false ≡ x
   unfolding same_key
