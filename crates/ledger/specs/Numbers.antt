@@ -1,10 +1,15 @@
 -- What the other definitions share: numbers as bytes, lists of numbers, keys.
-use Rattle.std.specs.Prelude.{ℕ, zero, suc, ◌+◌, ◌/◌, ◌%◌, Bool, true, false, cond, not, ◌&&◌, ◌||◌, List, [], ◌∷◌, ◌++◌, take, drop, eqb, ltb}
+use Rattle.std.specs.Prelude.{ℕ, zero, suc, Option, Some, None, ◌+◌, ◌/◌, ◌%◌, Bool, true, false, cond, not, ◌&&◌, ◌||◌, List, [], ◌∷◌, ◌++◌, take, drop, eqb, ltb}
 
 -- n bytes of v, the high byte first
 unfoldable pub digits : ℕ → ℕ → List ℕ
 digits zero v = []
 digits (suc n) v = digits n (v / 256) ++ (v % 256 ∷ [])
+
+-- a number, where 0 stands for none
+unfoldable pub or_none : ℕ → Option ℕ
+or_none zero = None
+or_none (suc n) = Some (suc n)
 
 unfoldable pub elem : ℕ → List ℕ → Bool
 elem x [] = false

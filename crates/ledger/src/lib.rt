@@ -2,7 +2,7 @@
 #![tactic(auto)]
 
 ghost use Rattle.std.specs.Prelude.{◌≡◌};
-ghost use Rattle.ledger.specs.Answers.{done_with, refused_with, outcome, refusal};
+ghost use Rattle.ledger.specs.Answers.{done_with, refused_with, outcome, refusal, refusal_number, outcome_of};
 ghost use Rattle.ledger.specs.Currency.{unset};
 
 // Code 0 where the call is done, else the number of its refusal; then the rest is 0.
@@ -74,6 +74,45 @@ impl Answer {
     }
 }
 
+// Why a call is refused.
+#[derive(Clone, Copy, Debug, PartialEq, Eq)]
+pub enum Refusal {
+    BadTable,
+    BadSize,
+    Damaged,
+    BadCurrency,
+    Unknown,
+    NoCurrent,
+    WrongKind,
+    BadLength,
+    NoRecord,
+    Duplicate,
+    NoRoom,
+    ShortOutput,
+}
+
+impl Refusal {
+    // Its number, an answer's code.
+    pub fn code(self) -> u8
+        ensures { result ≡ refusal_number self }
+    {
+        match self {
+            Refusal::BadTable => Answer::BAD_TABLE,
+            Refusal::BadSize => Answer::BAD_SIZE,
+            Refusal::Damaged => Answer::DAMAGED,
+            Refusal::BadCurrency => Answer::BAD_CURRENCY,
+            Refusal::Unknown => Answer::UNKNOWN,
+            Refusal::NoCurrent => Answer::NO_CURRENT,
+            Refusal::WrongKind => Answer::WRONG_KIND,
+            Refusal::BadLength => Answer::BAD_LENGTH,
+            Refusal::NoRecord => Answer::NO_RECORD,
+            Refusal::Duplicate => Answer::DUPLICATE,
+            Refusal::NoRoom => Answer::NO_ROOM,
+            Refusal::ShortOutput => Answer::SHORT_OUTPUT,
+        }
+    }
+}
+
 // The current record of the run, of each type and of each chain: codes in table order, 0 where there is none.
 #[derive(Clone, Copy)]
 pub struct Currency {
@@ -115,6 +154,16 @@ impl Outcome {
         Self {
             answer: Answer::refused(code),
             currency,
+        }
+    }
+
+    // What a call came to, `currency` as it came.
+    pub fn of(came: Result<Self, Refusal>, currency: Currency) -> Self
+        ensures { result ≡ outcome_of came currency }
+    {
+        match came {
+            Ok(done) => done,
+            Err(why) => Self::refused(why.code(), currency),
         }
     }
 }
