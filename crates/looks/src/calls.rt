@@ -155,14 +155,7 @@ pub fn master(table: &[u16], file: &[u8], cur: Currency, j: u16) -> Result<Outco
 fn is_there(file: &[u8], first: u32, last: u32, code: u32) -> bool
     ensures { result ≡ there_in file.now first last code }
 {
-    if code < first {
-        return false;
-    }
-    if last < code {
-        return false;
-    }
-    let kind = fields::kind_at(file, code);
-    kind != 0
+    (first..=last).contains(&code) && fields::kind_at(file, code) != 0
 }
 
 // The lowest such code.
