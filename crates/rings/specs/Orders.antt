@@ -1,7 +1,18 @@
--- What a chain's word for its order means to a walk.
-use Rattle.std.specs.Prelude.{ℕ, cond, eqb}
+-- What a chain's words for its order and duplicates mean to a walk.
+use Rattle.std.specs.Prelude.{ℕ, Bool, true, false, cond, eqb}
+use Rattle.rings.specs.declared.order.Duplicates.{Duplicates}
+use Rattle.rings.specs.declared.order.Duplicates.TheVariants as duplicates
 use Rattle.rings.specs.declared.order.Order.{Order}
-use Rattle.rings.specs.declared.order.Order.TheVariants.{First, Last, Rising, Falling}
+use Rattle.rings.specs.declared.order.Order.TheVariants as order
 
 abbrev pub order_of : ℕ → Order
-order_of w = cond (eqb w 0) First (cond (eqb w 1) Last (cond (eqb w 2) Rising Falling))
+order_of w = cond (eqb w 0) order.First (cond (eqb w 1) order.Last (cond (eqb w 2) order.Rising order.Falling))
+
+abbrev pub sorts : Order → Bool
+sorts order.First = false
+sorts order.Last = false
+sorts order.Rising = true
+sorts order.Falling = true
+
+abbrev pub duplicates_of : ℕ → Duplicates
+duplicates_of w = cond (eqb w 0) duplicates.First (cond (eqb w 2) duplicates.Refused duplicates.Last)

@@ -5,9 +5,9 @@ mod order;
 mod ring;
 
 ghost use Rattle.std.specs.Prelude.{◌≡◌};
-ghost use Rattle.ring_model.specs.Rings.{master_in, before_in, goes_before, key_stops, stops_in, next_without_in, between_in, found_or_none, key_twin_in, key_found_in, calc_found_in, calc_twin_in, calc_before_in};
+ghost use Rattle.ring_model.specs.Rings.{master_in, before_in, between_in, found_or_none, key_twin_in, key_found_in, calc_found_in, calc_twin_in, calc_before_in};
 
-use crate::order::Order;
+use crate::order::{Duplicates, Order};
 use crate::ring::{Calc, CalcKey, Chain, Ring, SortKey};
 use model::{Between, Found};
 use page::fields;
@@ -47,62 +47,21 @@ pub fn prior_of(table: &[u16], file: &[u8], j: u16, code: u32) -> u32
     ring::before(&ring, code, code, ring.next(code))
 }
 
-// Whether key `a` goes before key `b` in rising order; the duplicates rule decides on equal keys.
-#[tactic(auto, unfolding(ring_model::specs::Rings::goes_before))]
-fn goes_before(duplicates: u16, a: &[u8], b: &[u8]) -> bool
-    ensures { result ≡ goes_before duplicates a.now b.now }
-{
-    if duplicates == 0 {
-        !keys::less_key(b, a)
-    } else {
-        keys::less_key(a, b)
-    }
-}
-
-// Whether a key that goes along a ring of chain `j` stops before another: in falling order the other one would go before it.
-#[tactic(auto, unfolding(ring_model::specs::Rings::key_stops))]
-fn key_stops(table: &[u16], j: u16, key: &[u8], other: &[u8]) -> bool
-    ensures { result ≡ key_stops table.now j key.now other.now }
-{
-    let duplicates = words::chain_word(table, j, words::DUPLICATES);
-    match Order::from(words::chain_word(table, j, words::ORDER)) {
-        Order::First => true,
-        Order::Last => false,
-        Order::Rising => goes_before(duplicates, key, other),
-        Order::Falling => goes_before(duplicates, other, key),
-    }
-}
-
-// Whether record `y` stops a record with this key on its way along a ring of chain `j`.
-#[tactic(auto, unfolding(ring_model::specs::Rings::stops_in))]
-fn stops(table: &[u16], file: &[u8], j: u16, key: &[u8], y: u32) -> bool
-    ensures { result ≡ stops_in table.now file.now j key.now y }
-{
-    key_stops(table, j, key, page::keys::sort_key_at(table, file, j, y))
-}
-
-// The record after `at` in the ring that leaves `x` out.
-#[tactic(auto, unfolding(ring_model::specs::Rings::next_without_in))]
-fn next_without(table: &[u16], file: &[u8], j: u16, x: u32, at: u32) -> u32
-    ensures { result ≡ next_without_in table.now file.now j x at }
-{
-    let next = fields::next_at(table, file, j, at);
-    if next == x {
-        fields::next_at(table, file, j, x)
-    } else {
-        next
-    }
-}
-
 // Where a record with this key joins the ring of master `m`, which is taken without `x`.
 #[tactic(auto, using(crate::proofs::Laws::between_turn, crate::proofs::Laws::between_end), unfolding(ring_model::specs::Rings::between_in))]
 pub fn gap_for(table: &[u16], file: &[u8], j: u16, m: u32, key: &[u8], x: u32) -> Between
     ensures { result ≡ between_in table.now file.now j m key.now x }
 {
+    let ring = Chain {
+        table,
+        file,
+        j,
+        home: m,
+    };
     let mut before = m;
     for _turn in 0..FUEL {
-        let after = next_without(table, file, j, x, before);
-        if after == m || stops(table, file, j, key, after) {
+        let after = ring.next_without(x, before);
+        if ring.is_home(after) || ring.stops(key, after) {
             return Between { before, after };
         }
         before = after;
@@ -121,17 +80,7 @@ fn find_other(table: &[u16], file: &[u8], j: u16, m: u32, key: &[u8], x: u32) ->
         j,
         home: m,
     };
-    ring::find(
-        &ring,
-        &SortKey {
-            table,
-            file,
-            j,
-            key,
-            x,
-        },
-        ring.next(m),
-    )
+    ring::find(&ring, &SortKey { ring, key, x }, ring.next(m))
 }
 
 // The first of the ring of `m` with this key.
@@ -146,8 +95,8 @@ pub fn find_key(table: &[u16], file: &[u8], j: u16, m: u32, key: &[u8]) -> Optio
 pub fn twin_in(table: &[u16], file: &[u8], j: u16, m: u32, key: &[u8], x: u32) -> bool
     ensures { result ≡ key_twin_in table.now file.now j m key.now x }
 {
-    2 <= words::chain_word(table, j, words::ORDER)
-        && words::chain_word(table, j, words::DUPLICATES) == 2
+    Order::of(table, j).is_sorted()
+        && Duplicates::of(table, j) == Duplicates::Refused
         && find_other(table, file, j, m, key, x).is_some()
 }
 
@@ -156,15 +105,10 @@ pub fn twin_in(table: &[u16], file: &[u8], j: u16, m: u32, key: &[u8], x: u32) -
 pub fn find_calc(table: &[u16], file: &[u8], p: u32, kind: u16, key: &[u8], x: u32) -> Option<Found>
     ensures { result ≡ found_or_none (calc_found_in table.now file.now p kind key.now x) }
 {
+    let ring = Calc { table, file };
     ring::find(
-        &Calc { table, file },
-        &CalcKey {
-            table,
-            file,
-            kind,
-            key,
-            x,
-        },
+        &ring,
+        &CalcKey { ring, kind, key, x },
         fields::head_next(file, p),
     )
 }

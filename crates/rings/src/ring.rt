@@ -2,9 +2,9 @@
 ghost use Rattle.std.specs.Prelude.{◌≡◌, ℕ, Bool, eqb};
 ghost use Rattle.ledger.specs.Pages.{line_of};
 ghost use Rattle.model.specs.Reads.{next_in, calc_next_in};
-ghost use Rattle.ring_model.specs.Rings.{ring_fuel, back_from, found_from, found_or_none, has_key_in, has_calc_key_in};
+ghost use Rattle.ring_model.specs.Rings.{ring_fuel, back_from, found_from, found_or_none, next_without_in, stops_in, has_key_in, has_calc_key_in};
 
-use crate::FUEL;
+use crate::{FUEL, order};
 use model::Found;
 use page::fields;
 use table::keys;
@@ -56,6 +56,26 @@ impl Ring for Chain<'_> {
     }
 }
 
+impl Chain<'_> {
+    // The record after `at` in the ring that leaves `x` out.
+    #[tactic(auto, unfolding(ring_model::specs::Rings::next_without_in))]
+    pub(crate) fn next_without(&self, x: u32, at: u32) -> u32
+        ensures { result ≡ next_without_in self.now.table.now self.now.file.now self.now.j x at }
+    {
+        let next = self.next(at);
+        if next == x { self.next(x) } else { next }
+    }
+
+    // Whether record `y` stops a record with this key on its way along the ring.
+    #[tactic(auto, unfolding(ring_model::specs::Rings::stops_in))]
+    pub(crate) fn stops(&self, key: &[u8], y: u32) -> bool
+        ensures { result ≡ stops_in self.now.table.now self.now.file.now self.now.j key.now y }
+    {
+        let other = page::keys::sort_key_at(self.table, self.file, self.j, y);
+        order::key_stops(self.table, self.j, key, other)
+    }
+}
+
 // A page's CALC ring; its header's code has line 0.
 #[derive(Clone, Copy)]
 pub(crate) struct Calc<'a> {
@@ -77,48 +97,47 @@ impl Ring for Calc<'_> {
     }
 }
 
-// A record other than `x` with this key in chain `j`.
+// A record other than `x` of the ring with this sort key.
 #[derive(Clone, Copy)]
 pub(crate) struct SortKey<'a> {
-    pub(crate) table: &'a [u16],
-    pub(crate) file: &'a [u8],
-    pub(crate) j: u16,
+    pub(crate) ring: Chain<'a>,
     pub(crate) key: &'a [u8],
     pub(crate) x: u32,
 }
 
 impl Sought for SortKey<'_> {
-    ghost fits = { λ s at. has_key_in s.table.now s.file.now s.j s.key.now s.x at };
+    ghost fits = { λ s at. has_key_in s.ring.table.now s.ring.file.now s.ring.j s.key.now s.x at };
 
     #[tactic(auto, unfolding(ring_model::specs::Rings::has_key_in))]
     fn fits(&self, code: u32) -> bool {
+        let ring = self.ring;
         code != self.x
             && keys::same_key(
-                page::keys::sort_key_at(self.table, self.file, self.j, code),
+                page::keys::sort_key_at(ring.table, ring.file, ring.j, code),
                 self.key,
             )
     }
 }
 
-// A record other than `x` of this type with this CALC key.
+// A record other than `x` of the ring, of this type and with this CALC key.
 #[derive(Clone, Copy)]
 pub(crate) struct CalcKey<'a> {
-    pub(crate) table: &'a [u16],
-    pub(crate) file: &'a [u8],
+    pub(crate) ring: Calc<'a>,
     pub(crate) kind: u16,
     pub(crate) key: &'a [u8],
     pub(crate) x: u32,
 }
 
 impl Sought for CalcKey<'_> {
-    ghost fits = { λ s at. has_calc_key_in s.table.now s.file.now s.kind s.key.now s.x at };
+    ghost fits = { λ s at. has_calc_key_in s.ring.table.now s.ring.file.now s.kind s.key.now s.x at };
 
     #[tactic(auto, unfolding(ring_model::specs::Rings::has_calc_key_in))]
     fn fits(&self, code: u32) -> bool {
+        let ring = self.ring;
         code != self.x
-            && fields::kind_at(self.file, code) == self.kind
+            && fields::kind_at(ring.file, code) == self.kind
             && keys::same_key(
-                page::keys::calc_key_at(self.table, self.file, code),
+                page::keys::calc_key_at(ring.table, ring.file, code),
                 self.key,
             )
     }
