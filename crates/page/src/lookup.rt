@@ -20,20 +20,14 @@ pub const LAST_HEAD: usize = 508;
 pub fn size_at(f: &[u8], at: usize) -> u16
     ensures { result ≡ size_at f.now at }
 {
-    if f.len() <= at {
-        return 0;
-    }
-    bytes::two_at(f, at + 2)
+    bytes::two_at(bytes::rest_of(f, at), 2)
 }
 
 // The line in the head of a record that starts at `at`.
 pub fn line_at(f: &[u8], at: usize) -> u8
     ensures { result ≡ line_at f.now at }
 {
-    if f.len() <= at {
-        return 0;
-    }
-    bytes::byte_at(f, at + 4)
+    bytes::byte_at(bytes::rest_of(f, at), 4)
 }
 
 // Where the record of a line starts in a page.

@@ -5,16 +5,6 @@ use Rattle.ledger.specs.Numbers.{or_none}
 use Rattle.ledger.proofs.Lists.Nones.{none_is, some_above, zero_of_none, value_of_some, some_not_zero}
 use Rattle.ledger.proofs.Bytes.Lookup.{lookup_stop, lookup_out, lookup_limit, lookup_here, lookup_past}
 use Rattle.model.specs.Reads.{line_in, place_in}
-use Rattle.page.proofs.Laws.Bytes.{byte_past, two_past}
-
--- size_at and line_at
-pub size_past : (f : List ℕ) (at : ℕ) → length f ≤ at → 0 ≡ size_at f at
-unfolding size_at
-size_past f at h = two_past f (at + 2) (omega arith)
-
-pub line_past : (f : List ℕ) (at : ℕ) → length f ≤ at → 0 ≡ line_at f at
-unfolding line_at
-line_past f at h = byte_past f (at + 4) (omega arith)
 
 -- find_line; n turns in all
 module _ (p : List ℕ) (line at n i x : ℕ) (above : 0 < at) (inv : lookup 508 (n - i) p at line ≡ x) where
