@@ -11,6 +11,7 @@ use change::copies;
 use ledger::{Answer, Currency, Outcome, Refusal};
 use model::Found;
 use page::fields;
+use table::order::Order;
 use table::{keys, words};
 
 // Codes of records: 64 to a page, from page 1 on, and the first past them.
@@ -101,7 +102,7 @@ fn chain_start(table: &[u16], cur: Currency, j: u16) -> Result<u32, Refusal>
 }
 
 // FIND
-#[tactic(auto, using(crate::proofs::Laws::Calls::key_lost, crate::proofs::Laws::Calls::key_found), unfolding(look_model::specs::Looks::find_on, look_model::specs::Looks::chain_start))]
+#[tactic(auto, using(table::proofs::Orders::sorts_order, crate::proofs::Laws::Calls::key_lost, crate::proofs::Laws::Calls::key_found), unfolding(look_model::specs::Looks::find_on, look_model::specs::Looks::chain_start))]
 pub fn find(
     table: &[u16],
     file: &[u8],
@@ -112,7 +113,7 @@ pub fn find(
     ensures { outcome_of result cur ≡ find_on table.now file.now cur j key.now }
 {
     let at = chain_start(table, cur, j)?;
-    if words::chain_word(table, j, words::ORDER) < 2 {
+    if !Order::of(table, j).is_sorted() {
         return Err(Refusal::WrongKind);
     }
     if key.len() != words::chain_word(table, j, words::SORT_LENGTH) as usize {

@@ -1,16 +1,16 @@
 // Walks in rings of a sound file. Each has fuel for every code that a file can have.
 #![tactic(auto)]
 
-mod order;
 mod ring;
+mod stops;
 
 ghost use Rattle.std.specs.Prelude.{◌≡◌};
 ghost use Rattle.ring_model.specs.Rings.{master_in, before_in, between_in, found_or_none, key_twin_in, key_found_in, calc_found_in, calc_twin_in, calc_before_in};
 
-use crate::order::{Duplicates, Order};
 use crate::ring::{Calc, CalcKey, Chain, Ring, SortKey};
 use model::{Between, Found};
 use page::fields;
+use table::order::{Duplicates, Order};
 use table::{keys, words};
 
 pub const FUEL: u16 = 8256;

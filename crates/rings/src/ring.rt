@@ -4,7 +4,7 @@ ghost use Rattle.ledger.specs.Pages.{line_of};
 ghost use Rattle.model.specs.Reads.{next_in, calc_next_in};
 ghost use Rattle.ring_model.specs.Rings.{ring_fuel, back_from, found_from, found_or_none, next_without_in, stops_in, has_key_in, has_calc_key_in};
 
-use crate::{FUEL, order};
+use crate::{FUEL, stops};
 use model::Found;
 use page::fields;
 use table::keys;
@@ -72,7 +72,7 @@ impl Chain<'_> {
         ensures { result ≡ stops_in self.now.table.now self.now.file.now self.now.j key.now y }
     {
         let other = page::keys::sort_key_at(self.table, self.file, self.j, y);
-        order::key_stops(self.table, self.j, key, other)
+        stops::key_stops(self.table, self.j, key, other)
     }
 }
 

@@ -1,9 +1,9 @@
--- What a chain's words for its order and duplicates mean to a walk.
+-- What a chain's words for its order and duplicates mean.
 use Rattle.std.specs.Prelude.{ℕ, Bool, true, false, cond, eqb}
-use Rattle.rings.specs.declared.order.Duplicates.{Duplicates}
-use Rattle.rings.specs.declared.order.Duplicates.TheVariants as duplicates
-use Rattle.rings.specs.declared.order.Order.{Order}
-use Rattle.rings.specs.declared.order.Order.TheVariants as order
+use Rattle.table.specs.declared.order.Duplicates.{Duplicates}
+use Rattle.table.specs.declared.order.Duplicates.TheVariants as duplicates
+use Rattle.table.specs.declared.order.Order.{Order}
+use Rattle.table.specs.declared.order.Order.TheVariants as order
 
 abbrev pub order_of : ℕ → Order
 order_of w = cond (eqb w 0) order.First (cond (eqb w 1) order.Last (cond (eqb w 2) order.Rising order.Falling))
