@@ -1,9 +1,8 @@
 -- Bytes read by place.
-use Rattle.std.proofs.Common.{◌≡◌, ℕ, ◌+◌, ◌<◌, ◌≤◌, List, [], ◌∷◌, length, get_or, drop, sym, refl, arith, add_assoc, add-zero, drop-drop}
+use Rattle.std.proofs.Common.{◌≡◌, ℕ, ◌+◌, ◌<◌, ◌≤◌, List, [], ◌∷◌, length, get_or, drop, refl, arith, add_assoc, add-zero}
 use Rattle.std.specs.Int.{w16, w32, w64, from_be_bytes}
 use lib.ListN.{get_or-eq_default}
 use lib.Seq.{get_or-drop}
-use Rattle.ledger.specs.Numbers.{part}
 use Rattle.ledger.specs.Bytes.{two_at, three_at, size_at, line_at}
 use Rattle.model.specs.Room.{flags_at}
 
