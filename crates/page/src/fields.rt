@@ -1,4 +1,5 @@
-// A record's fields by its code: 0, or no bytes, where there is no record.
+// A record's fields by its code: 0, or no bytes, where there is no record. Numbers and no Options: `kind_in`, `next_in` and the
+// others are 0 there, as what a page says, and 0 is the null of a link in the file.
 ghost use Rattle.std.specs.Prelude.{◌≡◌, ◌+◌};
 ghost use Rattle.ledger.specs.Numbers.{part};
 ghost use Rattle.ledger.specs.Table.{calc_key, sort_key};

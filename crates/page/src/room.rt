@@ -25,7 +25,8 @@ pub fn free_bytes(page: &[u8]) -> u16
     bytes::two_at(page, 3)
 }
 
-// The lowest free line of a page: the first gap in the walk over its records. Line 0 where all are used.
+// The lowest free line of a page: the first gap in the walk over its records. Line 0 where all are used,
+// and no Option: `stored_on` (act_model) says what STORE writes at that gap too, line 0 and the walk's end.
 pub fn first_gap(page: &[u8]) -> Gap
     ensures { result ≡ first_gap page.now }
 {

@@ -1,5 +1,5 @@
 -- A record's fields.
-use Rattle.std.proofs.Common.{◌≡◌, refl, sym, ℕ, ◌+◌, Option, Some, None, List, [], length, drop, arith, length-drop, take_all, drop-drop, eq-eqb, ne_eqb}
+use Rattle.std.proofs.Common.{◌≡◌, refl, sym, ℕ, ◌+◌, Option, Some, None, List, [], eq-eqb, ne_eqb}
 use Rattle.ledger.specs.Numbers.{part, or_none}
 use Rattle.ledger.specs.Bytes.{two_at, three_at}
 use Rattle.ledger.proofs.Lists.Nones.{zero_of_none, value_of_some, some_not_zero}

@@ -1,5 +1,5 @@
 -- A page's lowest free line.
-use Rattle.std.proofs.Common.{◌≡◌, ℕ, zero, suc, ◌+◌, ◌-◌, ◌<◌, ◌≤◌, List, arith, eq-eqb, ne_eqb}
+use Rattle.std.proofs.Common.{◌≡◌, ℕ, zero, suc, ◌+◌, ◌<◌, List, arith, eq-eqb, ne_eqb}
 use Rattle.ledger.specs.Bytes.{size_at, line_at}
 use Rattle.model.specs.declared.Gap.{Gap}
 use Rattle.model.specs.Room.{gap_from}

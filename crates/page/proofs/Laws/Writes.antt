@@ -1,7 +1,6 @@
 -- Bytes written by place.
-use Rattle.std.proofs.Common.{◌≡◌, ℕ, zero, suc, ◌+◌, ◌-◌, ◌/◌, ◌%◌, ◌^◌, ◌<◌, ◌≤◌, List, [], ◌∷◌, ◌++◌, length, set, take, drop, ltb, refl, sym, ap, ◌∙◌, arith, length-set, append_assoc, add-one, take_all, ltb-true, ltb-false, drop-drop}
+use Rattle.std.proofs.Common.{◌≡◌, ℕ, zero, suc, ◌+◌, ◌-◌, ◌/◌, ◌%◌, ◌^◌, ◌<◌, ◌≤◌, List, [], ◌∷◌, length, set, take, ltb, refl, sym, ap, ◌∙◌, arith, length-set, append_assoc, take_all, ltb-true, ltb-false, drop-drop}
 use Rattle.std.proofs.lemmas.List.Edits.{sets, sets-eq}
-use Rattle.std.specs.Int.{w32, to_be_bytes}
 use borrow.Rule.Slice.PartMut.{put_mid}
 use lib.ListN.{length-take}
 use lib.Seq.{set_out}

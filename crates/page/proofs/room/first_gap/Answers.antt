@@ -1,4 +1,4 @@
-use Rattle.std.proofs.Common.{◌∙◌, refl, arith}
+use Rattle.std.proofs.Common.{refl, arith}
 use Rattle.model.specs.Room.{first_gap}
 use Rattle.page.proofs.Laws.Room.{gap_full, gap_here, gap_next}
 use Rattle.page.proofs.room.first_gap.Goals as goal
