@@ -2,6 +2,7 @@
 ghost use Rattle.std.specs.Prelude.{◌≡◌, if◌then◌else◌};
 ghost use Rattle.ledger.specs.Table.{calculated};
 ghost use Rattle.ledger.specs.Pages.{link_bytes, calc_at, link_at, record_size};
+ghost use Rattle.table.specs.Links.{link_offset};
 
 use super::words;
 
@@ -60,4 +61,23 @@ pub fn record_size(table: &[u16], number: u16) -> u32
     ensures { result ≡ record_size table.now number }
 {
     link_at(table, number, words::word(table, words::CHAINS))
+}
+
+// One of a record's links: NEXT or PRIOR in a chain, or CALC NEXT.
+#[derive(Clone, Copy)]
+pub enum Link {
+    Next(u16),
+    Prior(u16),
+    CalcNext,
+}
+
+// Where a link stands in a record of a type. A PRIOR stands behind the NEXT of its chain.
+pub fn offset(table: &[u16], number: u16, link: Link) -> usize
+    ensures { result ≡ link_offset table.now number link }
+{
+    match link {
+        Link::Next(j) => link_at(table, number, j) as usize,
+        Link::Prior(j) => link_at(table, number, j) as usize + 3,
+        Link::CalcNext => calc_at(table, number) as usize,
+    }
 }
