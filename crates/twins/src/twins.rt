@@ -10,6 +10,9 @@ use table::{keys, words};
 // As many records as the largest file has lines.
 pub const MOST: usize = 8064;
 
+// 2^LEVELS is no less.
+const LEVELS: u8 = 13;
+
 // Whether two records have one type and one key.
 fn are_twins(table: &[u16], file: &[u8], a: u16, b: u16) -> bool
     ensures { result ≡ are_twins table.now file.now a b }
@@ -92,7 +95,7 @@ fn twin_among(table: &[u16], file: &[u8], list: &mut [u16], scratch: &mut [u16])
 {
     let n = gather(table, file, list);
     let gathered = &mut list[..n];
-    sorting::sort(table, file, gathered, scratch, 13);
+    sorting::sort(table, file, gathered, scratch, LEVELS);
     lowest_twin(table, file, gathered)
 }
 

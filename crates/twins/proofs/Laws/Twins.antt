@@ -1,6 +1,6 @@
 -- Calculated records gathered, and twins among them.
 use Prim.Native.Nat.{ℕ, zero, suc, ◌+◌, ◌-◌, ◌*◌, ◌/◌, ◌%◌, ◌<◌, ◌≤◌}
-use mathlib.Core.Path.{◌≡◌, refl, sym, ◌∙◌, ap}
+use mathlib.Core.Path.{◌≡◌, refl, sym, ap}
 use mathlib.Core.Bool.{Bool, true, false}
 use mathlib.Core.List.{List, [], ◌∷◌, ◌++◌}
 use native.Mathlib.Omega.{arith}
@@ -11,9 +11,8 @@ use lib.Dec.{eqb, ltb, eqb-suc-zero}
 use Rattle.std.specs.Prelude.{Option, Some, None, min, unwrap_or}
 use Rattle.std.specs.Bool.{then_some}
 use Rattle.ledger.proofs.Lists.Tests.{by_cases}
-use borrow.Rule.Slice.PartMut.{put_mid}
-use lib.ListN.{length, take, drop, get_or, set, length-set, take-append-drop, drop_of_length-le, length-append}
-use lib.Seq.{drop-cons, take_at, length-take-le, drop-set-lt, take-suc-set, append_snoc}
+use lib.ListN.{length, take, drop, get_or, set, length-set, take-append-drop, length-append}
+use lib.Seq.{take_at, drop-set-lt, take-suc-set, append_snoc}
 use Rattle.ledger.specs.Numbers.{or_none, same_key}
 use Rattle.ledger.proofs.Lists.Nones.{none_is, some_is, some_above, zero_of_none, value_of_some, some_not_zero}
 use Rattle.ledger.specs.Table.{pages, calculated}
@@ -21,7 +20,6 @@ use Rattle.ledger.specs.Bytes.{two_at, line_at}
 use Rattle.model.specs.Reads.{place_in}
 use Rattle.audit_model.specs.Sorting.{key_from, goes_before, sorted}
 use Rattle.audit_model.specs.Twins.{are_twins, calculated_at, gather_from, gathered, gather_on, code_from, lower, lower_twin, lowest_from, twin_among}
-use Rattle.audit_model.proofs.Sorts.{length_sorted}
 use Rattle.audit_model.proofs.Gathered.{place_wraps}
 
 -- are_twins
