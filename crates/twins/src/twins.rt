@@ -28,10 +28,7 @@ fn are_twins(table: &[u16], file: &[u8], a: u16, b: u16) -> bool
 fn calculated_at(table: &[u16], file: &[u8], code: u32) -> Option<u16>
     ensures { result ≡ or_none (calculated_at table.now file.now code) }
 {
-    let s = lookup::find(file, code);
-    if s == 0 {
-        return None;
-    }
+    let s = lookup::find(file, code)?;
     let kind = bytes::two_at(file, s);
     words::is_calculated(table, kind).then_some((s % 65536) as u16)
 }
