@@ -10,13 +10,13 @@ use super::words;
 pub const HEAD: u32 = 5;
 
 // The bytes of a record's links in chain `j`: NEXT and PRIOR, NEXT alone, or none.
+#[tactic(auto, unfolding(ledger::specs::Pages::link_bytes))]
 pub fn link_bytes(table: &[u16], number: u16, j: u16) -> u8
     ensures { result ≡ link_bytes table.now number j }
 {
     if !words::in_chain(table, j, number) {
-        return 0;
-    }
-    if words::chain_word(table, j, words::LINKED_PRIOR) == 1 {
+        0
+    } else if words::chain_word(table, j, words::LINKED_PRIOR) == 1 {
         6
     } else {
         3
@@ -35,6 +35,7 @@ fn calc_bytes(table: &[u16], number: u16) -> u8
 }
 
 // Where CALC NEXT stands in a record: after the data.
+#[tactic(auto, unfolding(ledger::specs::Pages::calc_at))]
 pub fn calc_at(table: &[u16], number: u16) -> u32
     ensures { result ≡ calc_at table.now number }
 {
@@ -46,17 +47,15 @@ pub fn link_at(table: &[u16], number: u16, j: u16) -> u32
     ensures { result ≡ link_at table.now number j }
 {
     let data_length = words::kind_word(table, number, words::DATA_LENGTH) as u32;
-    let calc = calc_bytes(table, number) as u32;
-    let mut at = HEAD + data_length + calc;
-    let mut k: u16 = 0;
-    while k < j {
+    let mut at = HEAD + data_length + calc_bytes(table, number) as u32;
+    for k in 0..j {
         at += link_bytes(table, number, k) as u32;
-        k += 1;
     }
     at
 }
 
 // A record ends where one more chain's NEXT would stand.
+#[tactic(auto, unfolding(ledger::specs::Pages::record_size))]
 pub fn record_size(table: &[u16], number: u16) -> u32
     ensures { result ≡ record_size table.now number }
 {

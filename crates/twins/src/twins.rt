@@ -10,6 +10,9 @@ use table::{keys, words};
 // As many records as the largest file has lines.
 pub const MOST: usize = 8064;
 
+// 2^LEVELS is no less.
+const LEVELS: u8 = 13;
+
 // Whether two records have one type and one key.
 fn are_twins(table: &[u16], file: &[u8], a: u16, b: u16) -> bool
     ensures { result ≡ are_twins table.now file.now a b }
@@ -25,10 +28,7 @@ fn are_twins(table: &[u16], file: &[u8], a: u16, b: u16) -> bool
 fn calculated_at(table: &[u16], file: &[u8], code: u32) -> Option<u16>
     ensures { result ≡ or_none (calculated_at table.now file.now code) }
 {
-    let s = lookup::find(file, code);
-    if s == 0 {
-        return None;
-    }
+    let s = lookup::find(file, code)?;
     let kind = bytes::two_at(file, s);
     words::is_calculated(table, kind).then_some((s % 65536) as u16)
 }
@@ -92,7 +92,7 @@ fn twin_among(table: &[u16], file: &[u8], list: &mut [u16], scratch: &mut [u16])
 {
     let n = gather(table, file, list);
     let gathered = &mut list[..n];
-    sorting::sort(table, file, gathered, scratch, 13);
+    sorting::sort(table, file, gathered, scratch, LEVELS);
     lowest_twin(table, file, gathered)
 }
 

@@ -1,6 +1,6 @@
 -- Calculated records gathered, and twins among them.
 use Prim.Native.Nat.{ℕ, zero, suc, ◌+◌, ◌-◌, ◌*◌, ◌/◌, ◌%◌, ◌<◌, ◌≤◌}
-use mathlib.Core.Path.{◌≡◌, refl, sym, ◌∙◌, ap}
+use mathlib.Core.Path.{◌≡◌, refl, sym, ap}
 use mathlib.Core.Bool.{Bool, true, false}
 use mathlib.Core.List.{List, [], ◌∷◌, ◌++◌}
 use native.Mathlib.Omega.{arith}
@@ -11,9 +11,8 @@ use lib.Dec.{eqb, ltb, eqb-suc-zero}
 use Rattle.std.specs.Prelude.{Option, Some, None, min, unwrap_or}
 use Rattle.std.specs.Bool.{then_some}
 use Rattle.ledger.proofs.Lists.Tests.{by_cases}
-use borrow.Rule.Slice.PartMut.{put_mid}
-use lib.ListN.{length, take, drop, get_or, set, length-set, take-append-drop, drop_of_length-le, length-append}
-use lib.Seq.{drop-cons, take_at, length-take-le, drop-set-lt, take-suc-set, append_snoc}
+use lib.ListN.{length, take, drop, get_or, set, length-set, take-append-drop, length-append}
+use lib.Seq.{take_at, drop-set-lt, take-suc-set, append_snoc}
 use Rattle.ledger.specs.Numbers.{or_none, same_key}
 use Rattle.ledger.proofs.Lists.Nones.{none_is, some_is, some_above, zero_of_none, value_of_some, some_not_zero}
 use Rattle.ledger.specs.Table.{pages, calculated}
@@ -21,7 +20,6 @@ use Rattle.ledger.specs.Bytes.{two_at, line_at}
 use Rattle.model.specs.Reads.{place_in}
 use Rattle.audit_model.specs.Sorting.{key_from, goes_before, sorted}
 use Rattle.audit_model.specs.Twins.{are_twins, calculated_at, gather_from, gathered, gather_on, code_from, lower, lower_twin, lowest_from, twin_among}
-use Rattle.audit_model.proofs.Sorts.{length_sorted}
 use Rattle.audit_model.proofs.Gathered.{place_wraps}
 
 -- are_twins
@@ -34,16 +32,19 @@ module _ (t f : List ℕ) (a b x y : ℕ) (ex : x ≡ two_at f a) (ey : y ≡ tw
   unfolding are_twins
   twins_key c d r e ec ed er = rw (← ex, ← ey, eq-eqb x y e, ← ec, ← ed) er
 
--- calculated_at
-module _ (t f : List ℕ) (c s : ℕ) (es : s ≡ place_in f c) where
-  pub calculated_none : s ≡ 0 → None ≡ or_none (calculated_at t f c)
+-- calculated_at; o is what `find` gives
+module _ (t f : List ℕ) (c : ℕ) (o : Option ℕ) (eo : o ≡ or_none (place_in f c)) where
+  pub calculated_none : o ≡ None → None ≡ or_none (calculated_at t f c)
   unfolding calculated_at
-  calculated_none e = rw (← es, eq-eqb s 0 e) (none_is refl)
+  calculated_none e = rw (eq-eqb (place_in f c) 0 (zero_of_none _ eo e)) (none_is refl)
 
-  pub calculated_here : (k : ℕ) (b : Bool) (r : Option ℕ) → (s ≡ 0 → ⊥) → k ≡ two_at f s → b ≡ calculated t k → r ≡ then_some b (s % 65536) → r ≡ or_none (calculated_at t f c)
+  pub calculated_here : (s k : ℕ) (b : Bool) (r : Option ℕ) → o ≡ Some s → k ≡ two_at f s → b ≡ calculated t k → r ≡ then_some b (s % 65536) → r ≡ or_none (calculated_at t f c)
   unfolding calculated_at
-  calculated_here k b r ne ek eb er = rw (← es, ne_eqb s 0 ne, ← ek, ← eb, er) (by_cases b
-      (λ e. rw e (some_is refl (rw es (place_wraps f c (rw (← es) ne)))))
+  calculated_here s k b r es ek eb er =
+      let ne = some_not_zero _ eo es in
+      let h = value_of_some _ eo es in
+      rw (ne_eqb (place_in f c) 0 ne, ← h, ← ek, ← eb, er) (by_cases b
+      (λ e. rw e (some_is refl (rw h (place_wraps f c ne))))
       (λ e. rw e (none_is refl)))
 
 -- gather: n places are at the list's front, and those of the codes from c to before e are to be

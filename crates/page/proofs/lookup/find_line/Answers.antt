@@ -10,8 +10,9 @@ loop-turn-init c = (omega arith, refl)
 
 pub returns-then-at-ge-LAST_HEAD : goal.returns-then-at-ge-LAST_HEAD
 returns-then-at-ge-LAST_HEAD c = elim c.then-at-ge-LAST_HEAD.branch [
-    then-at-ge-LAST_HEAD-via-then-at-ge-LAST_HEAD w ↦ line_limit _ _ _ _ _ _ c.loop-turn.invariant.0 c.loop-turn.invariant.1 w.if-at-ge-LAST_HEAD.true
-    | then-at-ge-LAST_HEAD-via-else-at-ge-LAST_HEAD+then-size-eq0 w ↦ line_end _ _ _ _ _ _ c.loop-turn.invariant.0 c.loop-turn.invariant.1 (cc) ]
+  | then-at-ge-LAST_HEAD-via-then-at-ge-LAST_HEAD w ↦ line_limit _ _ _ _ _ _ c.loop-turn.invariant.0 c.loop-turn.invariant.1 w.if-at-ge-LAST_HEAD.true
+  | then-at-ge-LAST_HEAD-via-else-at-ge-LAST_HEAD+then-size-eq0 w ↦ line_end _ _ _ _ _ _ c.loop-turn.invariant.0 c.loop-turn.invariant.1 (cc)
+]
 
 pub returns-then-line_at-line : goal.returns-then-line_at-line
 returns-then-line_at-line c = line_here _ _ _ _ _ _ c.loop-turn.invariant.0 c.loop-turn.invariant.1 (omega arith) (omega arith) (rw c.size_at-size.ensures at c.if-size-eq0.false) (cc)

@@ -1,4 +1,4 @@
-use Rattle.std.proofs.Common.{rules, sym}
+use Rattle.std.proofs.Common.{sym}
 use lib.Seq.{length-take-le}
 use Rattle.twins.proofs.Laws.Twins.{gathered_count, among_is}
 use Rattle.twins.proofs.twins.twin_among.Goals as goal
