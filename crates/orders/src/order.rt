@@ -80,7 +80,8 @@ fn chain_fault(table: &[u16], file: &[u8], j: u16) -> Option<u32>
     (64..64 + 64 * pages).find(|&code| out_of_order(table, file, j, code))
 }
 
-// The first such master of the chains in their order.
+// The first such master of the chains in their order. A loop as in `sweeps::chains::first_fault`: one function for both would take the
+// test of a chain as a closure, and ask of its callers that it may be called.
 pub fn order_fault(table: &[u16], file: &[u8]) -> Option<u32>
     ensures { result ≡ or_none (order_fault_in table.now file.now) }
 {

@@ -1,4 +1,5 @@
-// The pages phase: what a page's bytes and the table show.
+// The pages phase: what a page's bytes and the table show. The table is lent as words and a page handed as a part of the file, with no
+// struct about them: forms of the project (docs/PROOFS.md, "The forms").
 ghost use Rattle.std.specs.Prelude.{◌≡◌, unwrap_or};
 ghost use Rattle.ledger.specs.Numbers.{or_none};
 ghost use Rattle.audit_model.specs.Scan.{stands, taken, zeros_from, ends, lines_in, scan_page, scan, ScanExact};

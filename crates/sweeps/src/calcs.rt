@@ -7,7 +7,8 @@ use crate::walks::{self, Ring, Rings};
 use page::{bytes, fields};
 use table::{keys, words};
 
-// The home page of a code's record: 0, which is no page, where it is not calculated or not there.
+// The home page of a code's record: 0, which is no page, where it is not calculated or not there. A number and no Option: under a table
+// that breaks the rules 0 may be a home, and `calc_met_in` and `calc_unmet_in` compare with it.
 #[tactic(auto, unfolding(audit_model::specs::Calcs::home_in))]
 fn home_at(table: &[u16], file: &[u8], code: u32) -> u32
     ensures { result ≡ home_in table.now file.now code }

@@ -124,7 +124,8 @@ fn chain_fault(table: &[u16], file: &[u8], j: u16) -> Option<u32>
 pub fn first_fault(table: &[u16], file: &[u8]) -> Option<u32>
     ensures { result ≡ or_none (ring_fault_in table.now file.now) }
 {
-    for j in 0..words::word(table, words::CHAINS) {
+    let chains = words::word(table, words::CHAINS);
+    for j in 0..chains {
         if let Some(place) = chain_fault(table, file, j) {
             return Some(place);
         }

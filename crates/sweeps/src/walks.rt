@@ -5,7 +5,7 @@ ghost use Rattle.audit_model.specs.Marks.{Walk, walk_on, sweep_on};
 
 use page::writes;
 
-// One mark a code.
+// One mark a code. A byte and no bool: `walk_on` sets 1 in a list of numbers.
 pub const MARKS: usize = model::CODES as usize;
 
 // One ring.

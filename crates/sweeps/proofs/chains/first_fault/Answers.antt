@@ -3,7 +3,7 @@ use Rattle.sweeps.proofs.Laws.Faults.{ring_first}
 use Rattle.sweeps.proofs.chains.first_fault.Goals as goal
 
 pub loop-j-init : goal.loop-j-init
-loop-j-init c = ring_first _ _ _ c.word-j-end.ensures
+loop-j-init c = ring_first _ _ _ c.word-chains.ensures
 
 pub returns-in-Some : goal.returns-in-Some
 returns-in-Some c = fault_here _ _ _ _ c.loop-j.invariant c.loop-j-test.true _ c.chain_fault.ensures _ c.in-Some.is

@@ -6,4 +6,4 @@ use Rattle.sweeps.proofs.chains.first_fault.Given as goal
 
 -- the chains before have no fault
 abbrev pub invariant-loop-j : goal.invariant-loop-j
-invariant-loop-j l = first_fault (chain_fault_in l.table l.file) (run l.j (l.j-end - l.j)) ≡ ring_fault_in l.table l.file
+invariant-loop-j l = first_fault (chain_fault_in l.table l.file) (run l.j (l.chains - l.j)) ≡ ring_fault_in l.table l.file
