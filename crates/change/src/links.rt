@@ -44,20 +44,18 @@ pub fn set_calc_next(table: &[u16], file: &mut [u8], code: u32, to: u32)
 }
 
 // Makes `to` the CALC NEXT of page `p`'s header.
+#[tactic(auto, unfolding(model::specs::Writes::head_put))]
 pub fn set_head_next(file: &mut [u8], p: u32, to: u32)
     ensures { head_put file.old p to ≡ file.new }
 {
-    if p == 0 {
-        return;
+    if p != 0 {
+        let start = lookup::PAGE_BYTES * (p as usize - 1);
+        writes::put_three(file, start + fields::HEAD_LINK, to);
     }
-    writes::put_three(
-        file,
-        lookup::PAGE_BYTES * (p as usize - 1) + fields::HEAD_LINK,
-        to,
-    );
 }
 
 // Makes `to` follow `code` in a CALC ring, be that a record or a header.
+#[tactic(auto, unfolding(model::specs::Writes::calc_put))]
 pub fn set_calc(table: &[u16], file: &mut [u8], code: u32, to: u32)
     ensures { calc_put table.now file.old code to ≡ file.new }
 {
@@ -69,6 +67,7 @@ pub fn set_calc(table: &[u16], file: &mut [u8], code: u32, to: u32)
 }
 
 // Makes `after` follow `before` in a ring of chain `j`.
+#[tactic(auto, unfolding(model::specs::Writes::joined_in))]
 pub fn join(table: &[u16], file: &mut [u8], j: u16, before: u32, after: u32)
     ensures { joined_in table.now file.old j before after ≡ file.new }
 {
@@ -77,6 +76,7 @@ pub fn join(table: &[u16], file: &mut [u8], j: u16, before: u32, after: u32)
 }
 
 // Puts record `x` between `before` and `after` in a ring of chain `j`.
+#[tactic(auto, unfolding(model::specs::Writes::linked_in))]
 pub fn link(table: &[u16], file: &mut [u8], j: u16, x: u32, before: u32, after: u32)
     ensures { linked_in table.now file.old j x before after ≡ file.new }
 {

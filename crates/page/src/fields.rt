@@ -1,4 +1,5 @@
-// A record's fields by its code: 0, or no bytes, where there is no record.
+// A record's fields by its code: 0, or no bytes, where there is no record. Numbers and no Options: `kind_in`, `next_in` and the
+// others are 0 there, as what a page says, and 0 is the null of a link in the file.
 ghost use Rattle.std.specs.Prelude.{◌≡◌, ◌+◌};
 ghost use Rattle.ledger.specs.Numbers.{part};
 ghost use Rattle.ledger.specs.Table.{calc_key, sort_key};
@@ -34,6 +35,7 @@ fn link_at(table: &[u16], file: &[u8], link: Link, code: u32) -> u32
 }
 
 // Its NEXT in chain `j`.
+#[tactic(auto, unfolding(model::specs::Reads::next_in))]
 pub fn next_at(table: &[u16], file: &[u8], j: u16, code: u32) -> u32
     ensures { result ≡ next_in table.now file.now j code }
 {
@@ -41,6 +43,7 @@ pub fn next_at(table: &[u16], file: &[u8], j: u16, code: u32) -> u32
 }
 
 // What stands where its PRIOR would in chain `j`.
+#[tactic(auto, unfolding(model::specs::Reads::prior_in))]
 pub fn prior_at(table: &[u16], file: &[u8], j: u16, code: u32) -> u32
     ensures { result ≡ prior_in table.now file.now j code }
 {
@@ -48,6 +51,7 @@ pub fn prior_at(table: &[u16], file: &[u8], j: u16, code: u32) -> u32
 }
 
 // Its CALC NEXT.
+#[tactic(auto, unfolding(model::specs::Reads::calc_next_in))]
 pub fn calc_next_at(table: &[u16], file: &[u8], code: u32) -> u32
     ensures { result ≡ calc_next_in table.now file.now code }
 {
@@ -55,6 +59,7 @@ pub fn calc_next_at(table: &[u16], file: &[u8], code: u32) -> u32
 }
 
 // The CALC NEXT of page `p`'s header.
+#[tactic(auto, unfolding(model::specs::Reads::head_next_in))]
 pub fn head_next(file: &[u8], p: u32) -> u32
     ensures { result ≡ head_next_in file.now p }
 {
@@ -68,7 +73,7 @@ pub fn head_next(file: &[u8], p: u32) -> u32
 fn part_off(f: &[u8], o: usize, k: usize, n: usize) -> &[u8]
     ensures { result.now ≡ part (o + k) n f.now }
 {
-    bytes::part_of(bytes::part_of(f, o, f.len()), k, n)
+    bytes::part_of(bytes::rest_of(f, o), k, n)
 }
 
 // The data of a code's record.
@@ -84,6 +89,7 @@ pub fn data_of<'a>(table: &[u16], file: &'a [u8], code: u32) -> &'a [u8]
 }
 
 // The CALC key in the data of a record of a type.
+#[tactic(auto, unfolding(ledger::specs::Table::calc_key))]
 pub fn calc_key<'a>(table: &[u16], kind: u16, data: &'a [u8]) -> &'a [u8]
     ensures { result.now ≡ calc_key table.now kind «data».now }
 {
@@ -93,6 +99,7 @@ pub fn calc_key<'a>(table: &[u16], kind: u16, data: &'a [u8]) -> &'a [u8]
 }
 
 // The key of chain `j` in the data of a record of a type.
+#[tactic(auto, unfolding(ledger::specs::Table::sort_key))]
 pub fn sort_key<'a>(table: &[u16], j: u16, kind: u16, data: &'a [u8]) -> &'a [u8]
     ensures { result.now ≡ sort_key table.now j kind «data».now }
 {

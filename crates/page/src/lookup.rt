@@ -1,6 +1,6 @@
 // The one lookup of a record by its code.
-ghost use Rattle.std.specs.Prelude.{◌≡◌};
-ghost use Rattle.ledger.specs.Bytes.{size_at, line_at};
+ghost use Rattle.std.specs.Prelude.{◌≡◌, ◌≤◌, ◌<◌, ◌⊎◌, ◌+◌, length, MatchOption};
+ghost use Rattle.ledger.specs.Bytes.{size_at, line_at, page_start};
 ghost use Rattle.ledger.specs.Numbers.{or_none};
 ghost use Rattle.model.specs.Reads.{line_in, place_in};
 
@@ -20,20 +20,14 @@ pub const LAST_HEAD: usize = 508;
 pub fn size_at(f: &[u8], at: usize) -> u16
     ensures { result ≡ size_at f.now at }
 {
-    if f.len() <= at {
-        return 0;
-    }
-    bytes::two_at(f, at + 2)
+    bytes::two_at(bytes::rest_of(f, at), 2)
 }
 
 // The line in the head of a record that starts at `at`.
 pub fn line_at(f: &[u8], at: usize) -> u8
     ensures { result ≡ line_at f.now at }
 {
-    if f.len() <= at {
-        return 0;
-    }
-    bytes::byte_at(f, at + 4)
+    bytes::byte_at(bytes::rest_of(f, at), 4)
 }
 
 // Where the record of a line starts in a page.
@@ -54,15 +48,23 @@ pub fn find_line(page: &[u8], line: u8) -> Option<u16>
     None
 }
 
+// Where page `p` starts in a file that has all of it.
+pub fn start_of(file: &[u8], p: u32) -> Option<usize>
+    ensures { MatchOption result ((p ≡ 0) ⊎ (length file.now < page_start p + 512)) (λ start. (start ≡ page_start p) × (1 ≤ p) × (start + 512 ≤ length file.now)) }
+{
+    let start = PAGE_BYTES * (p as usize).checked_sub(1)?;
+    if start + PAGE_BYTES <= file.len() {
+        Some(start)
+    } else {
+        None
+    }
+}
+
 // Where the record of a code starts in the file.
 pub fn find(file: &[u8], code: u32) -> Option<usize>
     ensures { result ≡ or_none (place_in file.now code) }
 {
-    let page = (code / 64) as usize;
-    if page == 0 {
-        return None;
-    }
-    let start = PAGE_BYTES * (page - 1);
-    let at = find_line(file.get(start..start + PAGE_BYTES)?, (code % 64) as u8)?;
+    let start = start_of(file, code / 64)?;
+    let at = find_line(&file[start..start + PAGE_BYTES], (code % 64) as u8)?;
     Some(start + at as usize)
 }

@@ -9,7 +9,8 @@ pub const TYPES: usize = 1;
 
 pub const CHAINS: usize = 2;
 
-// Words of a type's row.
+// Words of a type's row. Numbers and no enum, as those of a chain's row: `type_word`, `chain_word` and `kind_word` are
+// public and take any `w: u8`, so an enum would ask more of callers.
 pub const NUMBER: u8 = 0;
 
 pub const DATA_LENGTH: u8 = 1;
@@ -63,7 +64,7 @@ pub fn chain_word(table: &[u16], j: u16, w: u8) -> u16
     word(table, 3 + 8 * types + 7 * (j as usize) + w as usize)
 }
 
-// The row of a type number, or how many rows there are where none has it.
+// The row of a type number, or how many rows there are where none has it: `row` says so, and `kind_word` reads the word there.
 pub fn row_of(table: &[u16], number: u16) -> u16
     ensures { result ≡ row table.now number }
 {

@@ -1,16 +1,10 @@
 -- A record's fields.
-use Rattle.std.proofs.Common.{◌≡◌, refl, sym, ℕ, ◌+◌, Option, Some, None, List, [], length, drop, arith, length-drop, take_all, drop-drop, eq-eqb, ne_eqb}
+use Rattle.std.proofs.Common.{◌≡◌, refl, sym, ℕ, ◌+◌, Option, Some, None, List, [], eq-eqb, ne_eqb}
 use Rattle.ledger.specs.Numbers.{part, or_none}
 use Rattle.ledger.specs.Bytes.{two_at, three_at}
 use Rattle.ledger.proofs.Lists.Nones.{zero_of_none, value_of_some, some_not_zero}
 use Rattle.ledger.specs.Table.{row, data_len}
 use Rattle.model.specs.Reads.{place_in, kind_from, link_from, kind_in, data_in}
-
--- part_off
-pub part_of_rest : (f g r : List ℕ) (o k n : ℕ) → g ≡ part o (length f) f → r ≡ part k n g → r ≡ part (o + k) n f
-part_of_rest f g r o k n eg er =
-    let all : part o (length f) f ≡ drop o f = take_all (length f) (drop o f) (rw (length-drop o f) (omega arith)) in
-    rw (← drop-drop k o f, ← all, ← eg) er
 
 -- A record looked up; o is what `find` gives
 module _ (f : List ℕ) (c : ℕ) (o : Option ℕ) (eo : o ≡ or_none (place_in f c)) where

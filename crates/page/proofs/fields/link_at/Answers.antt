@@ -1,5 +1,4 @@
-use Rattle.std.proofs.Common.{◌∙◌, ap}
-use Rattle.table.specs.Links.{link_offset}
+use Rattle.std.proofs.Common.{◌∙◌}
 use Rattle.page.proofs.Laws.Fields.{link_none, link_some, kind_some}
 use Rattle.page.proofs.fields.link_at.Goals as goal
 
