@@ -1,45 +1,26 @@
 // The order of sorted rings: each detail may follow the one before it.
 ghost use Rattle.std.specs.Prelude.{◌≡◌};
 ghost use Rattle.ledger.specs.Numbers.{or_none};
-ghost use Rattle.audit_model.specs.Orders.{refused_twins, keys_in_order, in_order_in, ring_ordered_in, disordered_in, disorder_in, order_fault_in};
+ghost use Rattle.audit_model.specs.Orders.{in_order_in, ring_ordered_in, disordered_in, disorder_in, order_fault_in};
 
 use page::fields;
+use table::order::{Duplicates, Order};
 use table::{keys, words};
 
-// Whether two keys are a duplicate that the rule refuses.
-#[tactic(auto, unfolding(audit_model::specs::Orders::refused_twins))]
-fn refused_twins(duplicates: u16, a: &[u8], b: &[u8]) -> bool
-    ensures { result ≡ refused_twins duplicates a.now b.now }
-{
-    duplicates == 2 && keys::same_key(a, b)
-}
-
-// Whether key `a` may stand directly before key `b` in a chain of that order and duplicates rule.
-#[tactic(auto, unfolding(audit_model::specs::Orders::keys_in_order))]
-fn keys_in_order(order: u16, duplicates: u16, a: &[u8], b: &[u8]) -> bool
-    ensures { result ≡ keys_in_order order duplicates a.now b.now }
-{
-    if refused_twins(duplicates, a, b) {
-        return false;
-    }
-    if order == 2 {
-        !keys::less_key(b, a)
-    } else {
-        !keys::less_key(a, b)
-    }
-}
-
-// Whether record `x` may stand directly before record `y` in chain `j`.
-#[tactic(auto, unfolding(audit_model::specs::Orders::in_order_in))]
+// Whether record `x` may stand directly before record `y` in chain `j`: no duplicate that the rule refuses, and their keys in order.
+#[tactic(auto, unfolding(audit_model::specs::Orders::in_order_in, audit_model::specs::Orders::keys_in_order, audit_model::specs::Orders::refused_twins))]
 fn in_order(table: &[u16], file: &[u8], j: u16, x: u32, y: u32) -> bool
     ensures { result ≡ in_order_in table.now file.now j x y }
 {
-    keys_in_order(
-        words::chain_word(table, j, words::ORDER),
-        words::chain_word(table, j, words::DUPLICATES),
-        page::keys::sort_key_at(table, file, j, x),
-        page::keys::sort_key_at(table, file, j, y),
-    )
+    let a = page::keys::sort_key_at(table, file, j, x);
+    let b = page::keys::sort_key_at(table, file, j, y);
+    if Duplicates::of(table, j) == Duplicates::Refused && keys::same_key(a, b) {
+        return false;
+    }
+    match Order::of(table, j) {
+        Order::Rising => !keys::less_key(b, a),
+        _ => !keys::less_key(a, b),
+    }
 }
 
 // Whether the ring of master `m` in chain `j` is in order.
@@ -73,7 +54,7 @@ fn out_of_order(table: &[u16], file: &[u8], j: u16, code: u32) -> bool
 fn chain_fault(table: &[u16], file: &[u8], j: u16) -> Option<u32>
     ensures { result ≡ or_none (disorder_in table.now file.now j) }
 {
-    if words::chain_word(table, j, words::ORDER) < 2 {
+    if !Order::of(table, j).is_sorted() {
         return None;
     }
     let pages = words::word(table, words::PAGES) as u32;

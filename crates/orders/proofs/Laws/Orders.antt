@@ -1,14 +1,18 @@
 -- The order of sorted rings.
 use Prim.Native.Nat.{ℕ, ◌+◌, ◌*◌, ◌-◌, ◌<◌, ◌≤◌}
-use mathlib.Core.Path.{◌≡◌}
-use mathlib.Core.Bool.{Bool, true, false}
+use mathlib.Core.Path.{◌≡◌, sym, ◌∙◌}
+use mathlib.Core.Bool.{Bool, true, false, not}
 use mathlib.Core.List.{List}
 use native.Mathlib.Omega.{arith}
-use borrow.Author.Tests.{eq-eqb, ne_eqb, lt-ltb, le-ltb}
+use lib.Dec.{ltb}
+use borrow.Author.Tests.{eq-eqb, ne_eqb, not-true, not-false}
 use Rattle.std.specs.Prelude.{Option, None}
 use Rattle.ledger.specs.Numbers.{or_none, run, first_of}
 use Rattle.ledger.specs.Table.{pages, chains, order}
 use Rattle.ledger.proofs.Lists.Nones.{none_is}
+use Rattle.table.specs.declared.order.Order.{Order}
+use Rattle.table.specs.Orders.{order_of, sorts}
+use Rattle.table.proofs.Orders.{sorts_order}
 use Rattle.model.specs.Reads.{next_in}
 use Rattle.audit_model.specs.Marks.{first_fault}
 use Rattle.audit_model.specs.Orders.{in_order_in, ordered_from, ring_ordered_in, disordered_in, disorder_in, order_fault_in}
@@ -44,14 +48,17 @@ module _ (n turn : ℕ) (t f : List ℕ) (j m at : ℕ) (x : Bool) (inv : ordere
         ordered_next e = rw (left_turns more, ne_eqb at m ne, ← en, ne_eqb next m away, ← er, e) at inv
 
 -- chain_fault and order_fault
-module _ (t f : List ℕ) (j o : ℕ) (eo : o ≡ order t j) where
-  pub order_unsorted : o < 2 → None ≡ or_none (disorder_in t f j)
-  unfolding disorder_in
-  order_unsorted lt = none_is (rw (← eo, lt-ltb o 2 lt))
+module _ (t f : List ℕ) (j : ℕ) (o : Order) (r : Bool) (eo : o ≡ order_of (order t j)) (er : r ≡ sorts o) where
+  told : r ≡ not (ltb (order t j) 2)
+  told = (rw eo at er) ∙ sorts_order (order t j)
 
-  pub order_sorted : (r : Option ℕ) (n : ℕ) → 2 ≤ o → n ≡ pages t → r ≡ or_none (first_of (disordered_in t f j) (run 64 (64 * n))) → r ≡ or_none (disorder_in t f j)
+  pub order_unsorted : r ≡ false → None ≡ or_none (disorder_in t f j)
   unfolding disorder_in
-  order_sorted r n le en er = rw (← eo, le-ltb o 2 le, ← en) er
+  order_unsorted e = none_is (rw (not-false (ltb (order t j) 2) (sym told ∙ e)))
+
+  pub order_sorted : (x : Option ℕ) (n : ℕ) → r ≡ true → n ≡ pages t → x ≡ or_none (first_of (disordered_in t f j) (run 64 (64 * n))) → x ≡ or_none (disorder_in t f j)
+  unfolding disorder_in
+  order_sorted x n e en ex = rw (not-true (ltb (order t j) 2) (sym told ∙ e), ← en) ex
 
 pub order_first : (t f : List ℕ) (n : ℕ) → n ≡ chains t → first_fault (disorder_in t f) (run 0 (n - 0)) ≡ order_fault_in t f
 unfolding order_fault_in
