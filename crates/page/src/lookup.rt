@@ -1,6 +1,7 @@
 // The one lookup of a record by its code.
 ghost use Rattle.std.specs.Prelude.{◌≡◌};
 ghost use Rattle.ledger.specs.Bytes.{size_at, line_at};
+ghost use Rattle.ledger.specs.Numbers.{or_none};
 ghost use Rattle.model.specs.Reads.{line_in, place_in};
 
 use crate::bytes;
@@ -8,6 +9,9 @@ use crate::bytes;
 pub const PAGE_BYTES: usize = 512;
 
 pub const HEADER_BYTES: usize = 16;
+
+// The lines of a page: 1 to 63.
+pub const LINES: u8 = 63;
 
 // From here on a page has no room for the head of a record.
 pub const LAST_HEAD: usize = 508;
@@ -32,42 +36,33 @@ pub fn line_at(f: &[u8], at: usize) -> u8
     bytes::byte_at(f, at + 4)
 }
 
-// Where the record of a line starts in a page, or 0.
-pub fn find_line(page: &[u8], line: u8) -> u16
-    ensures { result ≡ line_in page.now line }
+// Where the record of a line starts in a page.
+pub fn find_line(page: &[u8], line: u8) -> Option<u16>
+    ensures { result ≡ or_none (line_in page.now line) }
 {
     let mut at = HEADER_BYTES;
-    let mut left: u8 = 63;
-    while 0 < left {
-        if LAST_HEAD <= at {
-            return 0;
-        }
+    for _turn in 0..LINES {
         let size = size_at(page, at);
-        if size == 0 {
-            return 0;
+        if LAST_HEAD <= at || size == 0 {
+            return None;
         }
         if line_at(page, at) == line {
-            return at as u16;
+            return Some(at as u16);
         }
         at += size as usize;
-        left -= 1;
     }
-    0
+    None
 }
 
-// Where the record of a code starts in the file, or 0.
-pub fn find(file: &[u8], code: u32) -> usize
-    ensures { result ≡ place_in file.now code }
+// Where the record of a code starts in the file.
+pub fn find(file: &[u8], code: u32) -> Option<usize>
+    ensures { result ≡ or_none (place_in file.now code) }
 {
     let page = (code / 64) as usize;
     if page == 0 {
-        return 0;
+        return None;
     }
     let start = PAGE_BYTES * (page - 1);
-    let end = start + PAGE_BYTES;
-    if file.len() < end {
-        return 0;
-    }
-    let at = find_line(&file[start..end], (code % 64) as u8);
-    if at == 0 { 0 } else { start + at as usize }
+    let at = find_line(file.get(start..start + PAGE_BYTES)?, (code % 64) as u8)?;
+    Some(start + at as usize)
 }

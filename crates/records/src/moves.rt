@@ -169,11 +169,9 @@ pub fn take_record(page: &mut [u8], at: usize)
 fn take_line(page: &mut [u8], line: u8)
     ensures { line_taken page.old line ≡ page.new }
 {
-    let at = lookup::find_line(page, line);
-    if at == 0 {
-        return;
+    if let Some(at) = lookup::find_line(page, line) {
+        take_record(page, at as usize);
     }
-    take_record(page, at as usize);
 }
 
 // Puts a record of a type into page `p` at a gap.

@@ -1,7 +1,9 @@
 -- Records put into a page and taken out; fresh pages.
-use Rattle.std.proofs.Common.{◌≡◌, ℕ, zero, suc, ◌+◌, ◌-◌, ◌*◌, ◌%◌, ◌<◌, ◌≤◌, List, length, get_or, take, drop, set, replicate, sym, refl, ap, ◌∙◌, mod-eq_of_lt, sub-one, arith, drop-drop, le-ltb, lt-ltb, eq-eqb, ne_eqb}
+use Rattle.std.proofs.Common.{◌≡◌, ℕ, zero, suc, ◌+◌, ◌-◌, ◌*◌, ◌%◌, ◌<◌, ◌≤◌, Option, Some, None, List, length, get_or, take, drop, set, replicate, sym, refl, ap, ◌∙◌, mod-eq_of_lt, sub-one, arith, drop-drop, le-ltb, lt-ltb, eq-eqb, ne_eqb}
 use native.Mathlib.Nat.{mod-add-mod, add-mod_right}
 use borrow.Rule.Slice.PartMut.{put_mid}
+use Rattle.ledger.specs.Numbers.{or_none}
+use Rattle.ledger.proofs.Lists.Nones.{zero_of_none, value_of_some, some_not_zero}
 use Rattle.model.specs.Reads.{line_in}
 use Rattle.model.specs.Moves.{opened_byte, closed_byte, fill, fill_from, less_by, record_taken, line_taken, page_made, on_page, made_from, file_made}
 use Rattle.page.proofs.Laws.Bytes.{byte_past}
@@ -59,15 +61,15 @@ wraps_less w a b r x y e ex ey h k =
     let s : r + y + (w - y) ≡ r + w = omega arith in
     rw (← ex, ← ey, ← e, mod-add-mod, s, add-mod_right, mod-eq_of_lt h)
 
--- take_line
-module _ (f : List ℕ) (line o : ℕ) (eo : o ≡ line_in f line) where
-  pub line_absent : o ≡ 0 → line_taken f line ≡ f
+-- take_line; o is what `find_line` gives
+module _ (f : List ℕ) (line : ℕ) (o : Option ℕ) (eo : o ≡ or_none (line_in f line)) where
+  pub line_free : o ≡ None → line_taken f line ≡ f
   unfolding line_taken
-  line_absent z = rw (← eo, eq-eqb o 0 z)
+  line_free h = rw (eq-eqb (line_in f line) 0 (zero_of_none _ eo h))
 
-  pub line_there : (g : List ℕ) → (o ≡ 0 → ⊥) → record_taken f o ≡ g → line_taken f line ≡ g
+  pub line_used : (at : ℕ) → o ≡ Some at → line_taken f line ≡ record_taken f at
   unfolding line_taken
-  line_there g nz e = rw (← eo, ne_eqb o 0 nz) e
+  line_used at h = let e : line_in f line ≡ at = sym (value_of_some _ eo h) in rw (ne_eqb (line_in f line) 0 (some_not_zero _ eo h), e)
 
 -- put_in and take_out: page p is lent, changed by `change`, and put back
 module _ (change : List ℕ → List ℕ) (f : List ℕ) (p : ℕ) where
