@@ -49,7 +49,7 @@ pub fn store_refusal(
     if lacks_current(table, cur, kind) {
         return Err(Refusal::NoCurrent);
     }
-    if data.len() != words::kind_word(table, kind, words::DATA_LENGTH) as usize {
+    if data.len() != usize::from(words::kind_word(table, kind, words::DATA_LENGTH)) {
         return Err(Refusal::BadLength);
     }
     if rings::calc_twin(table, file, kind, data, 0)

@@ -36,6 +36,7 @@ pub fn relink_refusal(table: &[u16], file: &[u8], x: u32, j: u16, m: u32) -> Res
 }
 
 // The neighbours of a record in its ring now.
+#[tactic(auto, unfolding(act_model::specs::Relinking::stands_in))]
 pub fn place_now(table: &[u16], file: &[u8], j: u16, x: u32) -> Between
     ensures { result ≡ stands_in table.now file.now j x }
 {
@@ -46,6 +47,7 @@ pub fn place_now(table: &[u16], file: &[u8], j: u16, x: u32) -> Between
 }
 
 // Moves record `x` of chain `j` from one place to another.
+#[tactic(auto, unfolding(act_model::specs::Relinking::moved_in))]
 pub fn move_to(table: &[u16], file: &mut [u8], j: u16, x: u32, old: Between, new: Between)
     ensures { moved_in table.now file.old j x old new ≡ file.new }
 {
@@ -61,6 +63,7 @@ fn place_under(table: &[u16], file: &[u8], j: u16, x: u32, m: u32) -> Between
 }
 
 // Carries a RELINK out.
+#[tactic(auto, unfolding(act_model::specs::Relinking::relinked_on))]
 pub fn relink_act(table: &[u16], file: &mut [u8], j: u16, x: u32, m: u32)
     ensures { relinked_on table.now file.old j x m ≡ file.new }
 {

@@ -1,5 +1,5 @@
 -- STORE.
-use Prim.Native.Nat.{ℕ, zero, suc, ◌+◌, ◌-◌, ◌%◌, ◌<◌, ◌≤◌}
+use Prim.Native.Nat.{ℕ, zero, suc, ◌+◌, ◌-◌, ◌<◌, ◌≤◌}
 use mathlib.Core.Path.{◌≡◌, refl, sym, ap}
 use mathlib.Core.List.{List, ◌∷◌}
 use native.Mathlib.Omega.{arith}
@@ -12,13 +12,11 @@ use Rattle.std.specs.Array.{IsFromFnResult, IsFromFnResultFrom}
 use Rattle.std.specs.Fn.{Called}
 use Rattle.ledger.specs.declared.Currency.{Currency}
 use Rattle.ledger.specs.Numbers.{run}
-use Rattle.ledger.specs.Pages.{record_size}
 use Rattle.model.specs.declared.Gap.{Gap}
 use Rattle.model.specs.declared.Between.{Between}
 use Rattle.ledger.specs.Bytes.{page_in}
 use Rattle.model.specs.Room.{first_gap}
-use Rattle.model.specs.Moves.{put_in}
-use Rattle.act_model.specs.Storing.{gap_in, places_by, place_at, entered_in, entered_from, entered_all, calc_joined, stored_code, stored_with, stored_on}
+use Rattle.act_model.specs.Storing.{gap_in, places_by, place_at, entered_in, entered_from, entered_all, stored_code, stored_with, stored_on}
 
 -- gaps_of: an array of what a closure gives for each index, where no call changes it
 module _ {F B : Type 0} {g : Mut F (ℕ × Unit {0}) B} (h : ℕ → B) (f : F) (calls : (x : ℕ) (y : B) (q : F) → Called g f (x, tt) y q → (q ≡ f) × (y ≡ h x)) (ys : List B) where
@@ -47,13 +45,6 @@ enter_first t f n x gaps = refl
 pub enter_end : (t f : List ℕ) (n x j : ℕ) (gaps : ℕ → Between) (y : List ℕ) → entered_from t f n x gaps j (16 - j) ≡ y → 16 ≤ j → y ≡ f
 unfolding entered_from
 enter_end t f n x j gaps y inv h = let k : 16 - j ≡ 0 = omega arith in sym (rw k at inv)
-
--- put_linked
-pub stored_with_lem : (t f : List ℕ) (n : ℕ) (d : List ℕ) (p : ℕ) (gap : Gap) (x : ℕ) (g : ℕ → Between) (size : ℕ) (f1 f2 f3 : List ℕ)
-    → size ≡ record_size t n → put_in f p gap n (size % 65536) d ≡ f1 → entered_all t f1 n x g ≡ f2 → calc_joined t f2 n d x ≡ f3
-    → stored_with t f n d p gap x g ≡ f3
-unfolding stored_with
-stored_with_lem t f n d p gap x g size f1 f2 f3 es e1 e2 e3 = rw (← es, e1, e2, e3)
 
 -- store_act: the gaps kept in an array are those that were found
 places_kept : (t f : List ℕ) (n x : ℕ) (g : ℕ → Between) → entered_all t f n x (place_at (places_by g)) ≡ entered_all t f n x g
