@@ -1,4 +1,5 @@
 // MODIFY: new data for the run's record; it joins afresh each ring whose key bytes change.
+// Its code stays a number, 0 where there is none: the currency's entry, the file format's own null.
 ghost use Rattle.std.specs.Prelude.{◌≡◌};
 ghost use Rattle.ledger.specs.Answers.{number_of};
 ghost use Rattle.act_model.specs.Modifying.{modify_twin, modify_refusal, moves_in, afresh_in, rejoined_in, rejoined_all, calc_moves_in, calc_prior_in, calc_left, calc_rejoined, data_put, modified_on};
@@ -13,7 +14,7 @@ use relinks::relinking;
 use table::{keys, words};
 
 // Whether the record would be a forbidden duplicate in one of its rings.
-// Beside STORE's test only the ring differs, its own in place of the occurrence: a trait for that call is longer than both.
+// Beside STORE's test only the ring differs. A closure for it would need a `requires`, which no function here has; a trait is longer than both.
 fn any_twin(table: &[u16], file: &[u8], new: Contents, x: u32) -> bool
     ensures { result ≡ modify_twin table.now file.now new.entry.kind new.entry.«data».now x }
 {

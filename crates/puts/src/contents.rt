@@ -1,4 +1,5 @@
 // What a record is to hold, and where its keys place it.
+// `but` is a record's code, or 0 for none: the walks of `rings` compare it with codes read from links.
 ghost use Rattle.std.specs.Prelude.{◌≡◌};
 ghost use Rattle.ledger.specs.Table.{calc_key, sort_key};
 ghost use Rattle.ledger.specs.Pages.{home};

@@ -26,7 +26,7 @@ fn page_in_range(table: &[u16], kind: u16, p: u32) -> u32
 {
     let low = u32::from(words::kind_word(table, kind, words::LOW_PAGE));
     let high = u32::from(words::kind_word(table, kind, words::HIGH_PAGE));
-    if low <= p && p <= high { p } else { low }
+    if (low..=high).contains(&p) { p } else { low }
 }
 
 // How a type's records are placed.

@@ -1,4 +1,5 @@
 // STORE: decided on a shared file, then carried out.
+// Code 0 for no record stays a number: the entries of a currency hold it, as the file format's own null.
 ghost use Rattle.std.specs.Prelude.{◌≡◌};
 ghost use Rattle.ledger.specs.Answers.{number_of};
 ghost use Rattle.act_model.specs.Storing.{lacks_current, store_twin, store_refusal, gap_in, places_by, place_at, entered_in, entered_all, calc_entered, calc_joined, stored_code, stored_with, stored_on};

@@ -1,4 +1,5 @@
 // RELINK: the run's record leaves its ring of a chain and joins another master's.
+// Its code stays a number, 0 where there is none: the currency's entry, the file format's own null.
 ghost use Rattle.std.specs.Prelude.{◌≡◌};
 ghost use Rattle.ledger.specs.Answers.{number_of};
 ghost use Rattle.model.specs.Keys.{sort_key_in};
@@ -25,6 +26,7 @@ pub fn relink_refusal(table: &[u16], file: &[u8], x: u32, j: u16, m: u32) -> Res
     if !words::is_detail(table, j, fields::kind_at(file, x)) {
         return Err(Refusal::WrongKind);
     }
+    // Type 0, no record, stays a number: `kind_in` says it so.
     let kind = fields::kind_at(file, m);
     if kind == 0 || !words::is_master(table, j, kind) {
         return Err(Refusal::NoRecord);
