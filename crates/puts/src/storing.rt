@@ -19,8 +19,9 @@ use table::{sizes, words};
 fn lacks_current(table: &[u16], cur: Currency, kind: u16) -> bool
     ensures { result ≡ lacks_current table.now cur kind }
 {
-    (0..words::word(table, words::CHAINS)).any(|j| words::is_detail(table, j, kind)
-        && currency::chain_current(cur, j) == 0)
+    (0..words::word(table, words::CHAINS)).any(|j| {
+        words::is_detail(table, j, kind) && currency::chain_current(cur, j) == 0
+    })
 }
 
 // Whether a new record would be a forbidden duplicate in the occurrence of a chain in which its type is detail.
