@@ -6,16 +6,13 @@ use crate::{text, walk};
 use change::copies;
 use page::{bytes, lookup, writes};
 use restore_model::{Group, Refused, Walk};
+use std::array;
 
 // The page in the image that starts at `at`.
 fn image_at(journal: &[u8], at: usize) -> [u8; 512]
     ensures { result ≡ image_at journal.now at }
 {
-    let mut out = [0u8; 512];
-    for i in 0..512 {
-        out[i] = walk::hex_at(journal, at, 4 + 2 * i);
-    }
-    out
+    array::from_fn(|i| walk::hex_at(journal, at, 4 + 2 * i))
 }
 
 // Where the line after that image starts.

@@ -51,13 +51,9 @@ pub fn differs(before: &[u8], after: &[u8], p: usize) -> bool
 pub fn count_of(before: &[u8], after: &[u8], n: u8) -> u16
     ensures { result ≡ count_of before.now after.now n }
 {
-    let mut count: u16 = 0;
-    for i in 0..n {
-        if differs(before, after, i as usize + 1) {
-            count += 1;
-        }
-    }
-    count
+    (0..n)
+        .filter(|i| differs(before, after, *i as usize + 1))
+        .count() as u16
 }
 
 // Puts bytes as digits from `at` on, as far as there is room.
@@ -79,8 +75,8 @@ fn put_digits(out: &mut [u8], at: usize, data: &[u8])
 pub fn put_image(out: &mut [u8], at: u32, file: &[u8], p: usize)
     ensures { image_put out.old at file.now p ≡ out.new }
 {
-    let number = [(p / 256 % 256) as u8, (p % 256) as u8];
-    put_digits(out, at as usize, &number);
+    let page = (p % 65536) as u16;
+    put_digits(out, at as usize, &page.to_be_bytes());
     put_digits(out, at as usize + 4, page_in(file, p));
     writes::put_byte(out, at as usize + 1028, LINE_END);
 }
@@ -113,8 +109,7 @@ fn put_images(out: &mut [u8], before: &[u8], after: &[u8], n: u8) -> u32
 pub fn put_mark(out: &mut [u8], at: u32, number: u16)
     ensures { mark_put out.old at number ≡ out.new }
 {
-    let digits = [(number / 256) as u8, (number % 256) as u8];
-    put_digits(out, at as usize, &digits);
+    put_digits(out, at as usize, &number.to_be_bytes());
     writes::put_byte(out, at as usize + 4, LINE_END);
 }
 

@@ -21,6 +21,7 @@ pub enum Group {
 }
 
 // Where a walk over a journal stands: the last group, where this line starts, and whether it has digits only.
+// A flag beside the start and no Option: the walk's law (`At` of Walking) speaks of the start of a line with other characters too.
 #[derive(Clone, Copy)]
 pub struct Walk {
     pub group: Group,

@@ -1,5 +1,5 @@
 -- The text of a call: the turns of its loops.
-use Prim.Native.Nat.{ℕ, suc, ◌+◌, ◌-◌, ◌≤◌, ◌<◌}
+use Prim.Native.Nat.{ℕ, zero, suc, ◌+◌, ◌-◌, ◌≤◌, ◌<◌}
 use mathlib.Core.Path.{◌≡◌, refl, sym, ◌∙◌}
 use mathlib.Core.Bool.{Bool, true, false, not, cond}
 use mir.Val.{bool_byte}
@@ -12,6 +12,8 @@ use lib.Dec.{eqb}
 use lib.ListN.{length, get_or, drop, drop_of_length-le}
 use lib.Pointwise.{pointwise}
 use lib.Seq.{drop-cons}
+use Rattle.std.specs.List.{filter, range_with_len}
+use Rattle.ledger.proofs.Lists.Tests.{by_cases}
 use Rattle.ledger.specs.Numbers.{same_key}
 use Rattle.ledger.specs.Bytes.{page_in}
 use Rattle.frames_model.specs.Texts.{hex_put}
@@ -40,28 +42,15 @@ changed_number f g p d e = rw (← e) (number d)
 
 -- count_of
 module _ (f g : List ℕ) where
-  turn : (p c x k : ℕ) → count_from f g p c (suc k) ≡ x → count_from f g (p + 1) (c + differs f g p) k ≡ x
-  unfolding count_from
-  turn p c x k inv = inv
-
-  counted : (b : Bool) (p c : ℕ) → apart f g p ≡ b → c + differs f g p ≡ c + cond b 1 0
-  unfolding differs
-  counted b p c e = rw e
-
-  module _ (i n c x : ℕ) (inv : count_from f g (i + 1) c (n - i) ≡ x) where
-    pub count_end : n ≤ i → c ≡ x
-    unfolding count_from
-    count_end h = let none : n - i ≡ 0 = omega arith in rw none at inv
-
-    module _ (h : i < n) where
-      next : count_from f g (i + 1 + 1) (c + differs f g (i + 1)) (n - (i + 1)) ≡ x
-      next = let more : n - i ≡ suc (n - (i + 1)) = omega arith in turn (i + 1) c x (n - (i + 1)) (rw more at inv)
-
-      pub count_next : true ≡ apart f g (i + 1) → count_from f g (i + 1 + 1) (c + 1) (n - (i + 1)) ≡ x
-      count_next e = rw (counted true (i + 1) c (sym e)) at next
-
-      pub count_same : false ≡ apart f g (i + 1) → count_from f g (i + 1 + 1) c (n - (i + 1)) ≡ x
-      count_same e = rw (counted false (i + 1) c (sym e), add-zero c) at next
+  pub count_filtered : (k i c : ℕ) → c + length (filter (λ i. apart f g (i + 1)) (range_with_len i k)) ≡ count_from f g (i + 1) c k
+  unfolding count_from differs
+  count_filtered zero i c = add-zero c
+  count_filtered (suc k) i c = by_cases (apart f g (i + 1))
+      (λ e.
+      let l = length (filter (λ i. apart f g (i + 1)) (range_with_len (i + 1) k)) in
+      let one : c + suc l ≡ c + 1 + l = omega arith in
+      rw e (one ∙ count_filtered k (i + 1) (c + 1)))
+      (λ e. rw (e, add-zero c) (count_filtered k (i + 1) c))
 
 -- put_digits
 module _ (bs out : List ℕ) (at i : ℕ) (x : List ℕ) (inv : digits_put out at (drop i bs) ≡ x) where
