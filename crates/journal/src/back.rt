@@ -41,6 +41,7 @@ fn put_back(file: &mut [u8], stored: &mut [u8], journal: &[u8], from: usize)
     ensures { back_from journal.now file.old stored.old from (length journal.now) ≡ (file.new, stored.new) }
 {
     let mut at = from;
+    // There are fewer images than bytes.
     for image in 0..journal.len() {
         let number = walk::page_said(journal, at);
         if number == text::READY {

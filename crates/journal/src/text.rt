@@ -1,4 +1,6 @@
 // The text of a call's images, ready line and done line.
+// The files before and after stay two slices: the C interface lends them so, and most functions here pass them on as they came.
+// An output stays whole, with a place in it: each promise says what its other bytes are.
 ghost use Rattle.std.specs.Prelude.{◌≡◌};
 ghost use Rattle.ledger.specs.Bytes.{page_in};
 ghost use Rattle.restore_model.specs.Texts.{pages_in, apart, count_of, digits_put, image_put, changed_put, images_from, mark_put, start_put, text_on};
@@ -8,7 +10,7 @@ use page::{bytes, lookup, writes};
 
 pub const LINE_END: u8 = 10;
 
-// The numbers of a line that is ready or done, 0000 and FFFF.
+// The numbers of a ready and of a done line, 0000 and FFFF, as the file stores them.
 pub const READY: u16 = 0;
 
 pub const DONE: u16 = 65535;

@@ -20,7 +20,8 @@ pub fn hex_at(journal: &[u8], at: usize, k: usize) -> u8
     high % 16 * 16 + low % 16
 }
 
-// The number in the four digits from `at` on.
+// The number in the four digits from `at` on: a page, or that of a ready or done line.
+// A number and no enum: the file stores it, and what it says depends on the line's length too.
 #[tactic(auto, unfolding(restore_model::specs::Walks::page_said))]
 pub fn page_said(journal: &[u8], at: usize) -> u16
     ensures { result ≡ page_said journal.now at }

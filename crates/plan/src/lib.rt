@@ -1,4 +1,5 @@
 // Which line or store is due: the writes of a call and of recovery, one at a time.
+// A mark is a byte and no bool: recovery, lent to C, tells its pages so, and `first_of_recovery` and `next` read those too.
 #![tactic(auto)]
 
 ghost use Rattle.std.specs.Prelude.{◌≡◌, ◌+◌, set};
