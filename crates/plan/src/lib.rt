@@ -1,16 +1,17 @@
 // Which line or store is due: the writes of a call and of recovery, one at a time.
+// A mark is a byte and no bool: recovery, lent to C, tells its pages so, and `first_of_recovery` and `next` read those too.
 #![tactic(auto)]
 
-ghost use Rattle.std.specs.Prelude.{◌≡◌, [], ◌+◌, set};
-ghost use Rattle.ledger.specs.declared.Due.TheVariants.{Image, Ready, Done};
+ghost use Rattle.std.specs.Prelude.{◌≡◌, ◌+◌, set};
+ghost use Rattle.ledger.specs.declared.Due.TheVariants.{Image};
 ghost use Rattle.ledger.specs.Journal.Dues.{marked, call_dues, recovery_dues, first_of};
 ghost use Rattle.ledger.specs.Journal.Promises.{Marks, Follows, PutsLine};
-ghost use Rattle.restore_model.specs.Texts.{differs};
-ghost use Rattle.restore_model.specs.Plans.{marked_after, call_first, recovery_first, due_next, marks_from, marks_on, line_on};
+ghost use Rattle.restore_model.specs.Texts.{differs, mark_put};
+ghost use Rattle.restore_model.specs.Plans.{marked_after, call_first, recovery_first, due_next, marks_from, marks_on, where_room, line_on};
 
 use journal::text;
 use ledger::Due;
-use page::writes;
+use page::{lookup, writes};
 
 // The lowest page marked past page `after`.
 fn marked_after(marks: &[u8], after: usize) -> Option<usize>
@@ -56,7 +57,7 @@ fn put_mark(before: &[u8], after: &[u8], marks: &mut [u8], i: u8)
     writes::put_byte(
         marks,
         i as usize,
-        text::differs(before, after, i as usize + 1),
+        text::differs(before, after, i as usize + 1) as u8,
     );
 }
 
@@ -78,10 +79,7 @@ pub fn mark(before: &[u8], after: &[u8], marks: &mut [u8]) -> Option<u8>
     if before.len() != after.len() {
         return None;
     }
-    let n = text::pages_in(before.len());
-    if n == 0 {
-        return None;
-    }
+    let n = text::pages_in(before.len())?;
     if marks.len() < n as usize {
         return None;
     }
@@ -93,45 +91,37 @@ pub fn mark(before: &[u8], after: &[u8], marks: &mut [u8]) -> Option<u8>
 fn put_image_line(before: &[u8], page: usize, out: &mut [u8]) -> Option<u16>
     ensures { line_on before.now (Image page) out.old ≡ (result, out.new) }
 {
-    if page == 0 || before.len() / 512 < page || out.len() < text::IMAGE as usize {
+    if page == 0
+        || before.len() / lookup::PAGE_BYTES < page
+        || out.len() < text::IMAGE_LINE as usize
+    {
         return None;
     }
     text::put_image(out, 0, before, page);
-    Some(text::IMAGE)
+    Some(text::IMAGE_LINE)
 }
 
-// Puts a ready line; its length, none where `out` has no room.
-fn put_ready_line(out: &mut [u8]) -> Option<u16>
-    ensures { line_on [] Ready out.old ≡ (result, out.new) }
+// Puts a line of a number alone; its length, none where `out` has no room.
+fn put_mark_line(out: &mut [u8], number: u16) -> Option<u16>
+    ensures { where_room 5 out.old (mark_put out.old 0 number) ≡ (result, out.new) }
 {
-    if out.len() < text::READY as usize {
+    if out.len() < text::MARK_LINE as usize {
         return None;
     }
-    text::put_ready(out, 0);
-    Some(text::READY)
+    text::put_mark(out, 0, number);
+    Some(text::MARK_LINE)
 }
 
-// Puts a done line; its length, none where `out` has no room.
-fn put_done_line(out: &mut [u8]) -> Option<u16>
-    ensures { line_on [] Done out.old ≡ (result, out.new) }
-{
-    if out.len() < text::DONE as usize {
-        return None;
-    }
-    text::put_done(out, 0);
-    Some(text::DONE)
-}
-
-// Puts the line that is due at the front of `out`; its length. None, with nothing put, where no line is due, its page is none of `before`, or `out`
-// has no room.
+// Puts the line that is due at the front of `out`; its length. None, with nothing put, where what is due is no line, its page is none of `before`, or
+// `out` has no room.
 pub fn put_line(before: &[u8], due: Due, out: &mut [u8]) -> Option<u16>
     ensures computed { line_on before.now due out.old ≡ (result, out.new) }
     ensures puts { PutsLine before.now due out.old result out.new }
 {
     match due {
         Due::Image(page) => put_image_line(before, page, out),
-        Due::Ready => put_ready_line(out),
-        Due::Done => put_done_line(out),
+        Due::Ready => put_mark_line(out, text::READY),
+        Due::Done => put_mark_line(out, text::DONE),
         Due::Store(_) | Due::Back(_) | Due::Empty => None,
     }
 }

@@ -1,28 +1,14 @@
--- What each public function computes, with what it promises.
+-- From what a public function of `plan` computes, what it promises.
 use Prim.Native.Nat.{ℕ}
 use mathlib.Core.Path.{◌≡◌, sym, subst}
 use mathlib.Core.List.{List}
 use Rattle.std.proofs.Common.{Option}
-use Rattle.restore_model.specs.Texts.{differs, images_on}
-use Rattle.restore_model.specs.Walks.{recover_on}
 use Rattle.restore_model.specs.Plans.{due_next, marks_on, line_on}
 use Rattle.ledger.specs.declared.Due.{Due}
-use Rattle.ledger.specs.Journal.Promises.{Tells, Starts, Restores, Marks, Follows, PutsLine}
-use Rattle.restore_model.proofs.Starts.{tells, starts}
-use Rattle.restore_model.proofs.Restores.{restores}
+use Rattle.ledger.specs.Journal.Promises.{Marks, Follows, PutsLine}
 use Rattle.restore_model.proofs.Marked.{follows}
 use Rattle.restore_model.proofs.Marks.{marks}
 use Rattle.restore_model.proofs.PutsLine.{puts_line}
-
-pub tells_both : (f g : List ℕ) (p r : ℕ) → r ≡ differs f g p → (r ≡ differs f g p) × Tells f g p r
-tells_both f g p r e = (e, tells f g p r e)
-
-pub starts_both : (f g out : List ℕ) (r : ℕ) (out' : List ℕ) → images_on f g out ≡ (r, out') → (images_on f g out ≡ (r, out')) × Starts f g out r out'
-starts_both f g out r out' e = (e, starts f g out r out' e)
-
-pub restores_both : (f j s : List ℕ) (r : ℕ) (f' s' : List ℕ) → recover_on f j s ≡ (r, f', s')
-    → (recover_on f j s ≡ (r, f', s')) × Restores f j s r f' s'
-restores_both f j s r f' s' e = (e, restores f j s r f' s' e)
 
 pub follows_from : (s : List ℕ) (d : Due) (r : Option Due) → r ≡ due_next s d → Follows s d r
 follows_from s d r e = subst (λ q. Follows s d q) (sym e) (follows s d)

@@ -17,18 +17,26 @@ use Rattle.ledger.proofs.Lists.Tests.{by_cases, same_or_not, both, not_true_fals
 use Rattle.ledger.proofs.Lists.Keys.{same_eq}
 use Rattle.model.proofs.Fills.{fill_is}
 use Rattle.ledger.specs.Journal.Recovery.{Line, image, ready, done, malformed, line_says, line_read}
+use Rattle.restore_model.specs.declared.Said.{Said}
+use Rattle.restore_model.specs.declared.Said.TheVariants.{Image, Ready, Done, Malformed}
 use Rattle.restore_model.specs.Walks.{hex_at, page_said, mark_said, image_said, said_in, image_at}
 use Rattle.restore_model.proofs.Pairs.{Says, Bad, pairs_read, hex_small, byte_there, page_there}
 
 other_length : (bs cs : List ℕ) → length bs ≢ length cs → same_key bs cs ≡ false
 other_length bs cs n = not_true_false _ (λ s. n (ap (λ (l : List ℕ). length l) (same_eq bs cs s)))
 
--- the number of what a line says
-abbrev pub number_of : Line → ℕ
-number_of (image p bs) = p
-number_of ready = 0
-number_of done = 65535
-number_of malformed = 65536
+-- what a line says, but for an image's bytes
+abbrev pub said_of : Line → Said
+said_of (image p bs) = Image p
+said_of ready = Ready
+said_of done = Done
+said_of malformed = Malformed
+
+abbrev page_of : Line → ℕ
+page_of (image p bs) = p
+page_of ready = 0
+page_of done = 0
+page_of malformed = 0
 
 abbrev bytes_of : Line → List ℕ
 bytes_of (image p bs) = bs
@@ -50,13 +58,13 @@ no_ready {ℓ} : {A : Type ℓ} {x : Line} → x ≡ ready → (kind_of x ≡ 1 
 no_ready e n = absurd (n (ap kind_of e))
 
 -- of a line of two bytes
-mark_is : (n a b : ℕ) → a < 256 → b < 256 → mark_said (a * 256 + b) ≡ number_of (line_says n (a ∷ b ∷ []))
+mark_is : (n a b : ℕ) → a < 256 → b < 256 → mark_said (a * 256 + b) ≡ said_of (line_says n (a ∷ b ∷ []))
 unfolding mark_said line_says same_key
 mark_is n a b ha hb = same_or_not (a * 256 + b) 0
-    (λ z. rw (eq-eqb (a * 256 + b) 0 z, eq-eqb a 0 (omega arith), eq-eqb b 0 (omega arith)) z)
+    (λ z. rw (eq-eqb (a * 256 + b) 0 z, eq-eqb a 0 (omega arith), eq-eqb b 0 (omega arith)))
     (λ z. same_or_not (a * 256 + b) 65535
     (λ y.
-    rw (ne_eqb (a * 256 + b) 0 z, eq-eqb (a * 256 + b) 65535 y, ne_eqb a 0 (omega arith), eq-eqb a 255 (omega arith), eq-eqb b 255 (omega arith)) y)
+    rw (ne_eqb (a * 256 + b) 0 z, eq-eqb (a * 256 + b) 65535 y, ne_eqb a 0 (omega arith), eq-eqb a 255 (omega arith), eq-eqb b 255 (omega arith)))
     (λ y.
     let no : (x : ℕ) → a * 256 + b ≢ x * 256 + x → same_key (a ∷ b ∷ []) (x ∷ x ∷ []) ≡ false
     = λ x m. not_true_false _ (λ s.
@@ -66,7 +74,7 @@ mark_is n a b ha hb = same_or_not (a * 256 + b) 0
     rw (ne_eqb (a * 256 + b) 0 z, ne_eqb (a * 256 + b) 65535 y, no 0 z, no 255 y)))
 
 -- of one of 514 bytes
-image_is : (n : ℕ) (bs : List ℕ) → length bs ≡ 514 → image_said n (two_at bs 0) ≡ number_of (line_says n bs)
+image_is : (n : ℕ) (bs : List ℕ) → length bs ≡ 514 → image_said n (two_at bs 0) ≡ said_of (line_says n bs)
 unfolding image_said line_says between
 image_is n bs long =
     let p = two_at bs 0 in
@@ -82,7 +90,7 @@ other_is : (n : ℕ) (bs : List ℕ) → length bs ≢ 2 → length bs ≢ 514 �
 unfolding line_says
 other_is n bs a b = rw (other_length bs (0 ∷ 0 ∷ []) a, other_length bs (255 ∷ 255 ∷ []) a, ne_eqb (length bs) 514 b)
 
-two_is : (n : ℕ) (bs : List ℕ) → length bs ≡ 2 → ((k : ℕ) → k < 2 → get_or bs k 0 < 256) → mark_said (two_at bs 0) ≡ number_of (line_says n bs)
+two_is : (n : ℕ) (bs : List ℕ) → length bs ≡ 2 → ((k : ℕ) → k < 2 → get_or bs k 0 < 256) → mark_said (two_at bs 0) ≡ said_of (line_says n bs)
 unfolding two_at
 two_is n [] e small = absurd (omega arith)
 two_is n (a ∷ []) e small = absurd (omega arith)
@@ -90,7 +98,7 @@ two_is n (a ∷ b ∷ []) e small = mark_is n a b (small 0 (omega arith)) (small
 two_is n (a ∷ b ∷ c ∷ bs) e small = absurd (omega arith)
 
 module _ (n : ℕ) (j : List ℕ) (start : ℕ) (l : List ℕ) (stands : l ≡ part start (length l) j) where
-  said_bytes : (bs : List ℕ) → Says l bs → said_in n j start (start + length l + 1) true ≡ number_of (line_says n bs)
+  said_bytes : (bs : List ℕ) → Says l bs → said_in n j start (start + length l + 1) true ≡ said_of (line_says n bs)
   unfolding said_in
   said_bytes bs s =
       let long = s.long in
@@ -109,7 +117,7 @@ module _ (n : ℕ) (j : List ℕ) (start : ℕ) (l : List ℕ) (stands : l ≡ p
       (image_is n bs e))
       (λ b. rw (ne_eqb (2 * length bs + 1) 5 (λ q. a (omega arith)), ne_eqb (2 * length bs + 1) 1029 (λ q. b (omega arith)), other_is n bs a b))))
 
-  said_bad : Bad l → said_in n j start (start + length l + 1) (all (λ c. is_digit c) l) ≡ 65536
+  said_bad : Bad l → said_in n j start (start + length l + 1) (all (λ c. is_digit c) l) ≡ Malformed
   unfolding said_in
   said_bad (inl e) = rw e
   said_bad (inr odd) =
@@ -118,7 +126,7 @@ module _ (n : ℕ) (j : List ℕ) (start : ℕ) (l : List ℕ) (stands : l ≡ p
       (λ e. rw (e, size, ne_eqb (length l + 1) 5 (λ q. odd 2 (omega arith)), ne_eqb (length l + 1) 1029 (λ q. odd 514 (omega arith))))
       (λ e. rw e)
 
-  pub said_is : said_in n j start (start + length l + 1) (all (λ c. is_digit c) l) ≡ number_of (line_read n (pairs_of l))
+  pub said_is : said_in n j start (start + length l + 1) (all (λ c. is_digit c) l) ≡ said_of (line_read n (pairs_of l))
   said_is =
       elim (pairs_read l) [
         | inl (bs, e, s) ↦ rw (s.good, e) (said_bytes bs s)
@@ -145,7 +153,7 @@ module _ (n : ℕ) (j : List ℕ) (start : ℕ) (l : List ℕ) (stands : l ≡ p
       let (low, high) = both (leb 1 (two_at cs 0)) (leb (two_at cs 0) n) e3 in
       let long = eqb-true (length cs) 514 e2 in
       let i : image (two_at cs 0) (drop 2 cs) ≡ image p bs = rw (e0, e1, e) at h in
-      let page = ap number_of i in
+      let page = ap page_of i in
       let at : (k : ℕ) → k < 512 → get_or (drop 2 cs) k 0 ≡ hex_at j (start + (4 + 2 * k))
       = λ k lt. let e4 : start + 2 * (2 + k) ≡ start + (4 + 2 * k) = omega arith in
       get_or-drop 2 cs k 0 ∙ rw e4 at (byte_there j start l stands cs s (2 + k) (omega arith)) in

@@ -16,8 +16,8 @@ use Rattle.ledger.proofs.Lists.Sieves.{keep_same}
 use Rattle.ledger.specs.Bytes.{page_in}
 use Rattle.ledger.specs.Journal.Writes.{changed}
 use Rattle.ledger.specs.Journal.Dues.{marked}
-use Rattle.restore_model.specs.Texts.{pages_in, differs}
-use Rattle.restore_model.specs.Plans.{marks_from, marks_on}
+use Rattle.restore_model.specs.Texts.{pages_in, apart, differs}
+use Rattle.restore_model.specs.Plans.{marks_from, marks_paged, marks_on}
 use Rattle.ledger.specs.Journal.Promises.{Paged, Marks}
 use Rattle.restore_model.proofs.Sizes.{paged_pages, pages_paged}
 
@@ -54,7 +54,7 @@ module _ (f g : List ℕ) where
 
   -- a page is told by 1 where it differs
   told_is : (p : ℕ) → eqb (differs f g p) 1 ≡ not (same_key (page_in f p) (page_in g p))
-  unfolding differs
+  unfolding differs apart
   told_is p = by_cases (same_key (page_in f p) (page_in g p)) (λ e. rw e) (λ e. rw e)
 
   marked_is : (n : ℕ) (s : List ℕ) → n ≤ length s → marked (take n (marks_from f g s 0 n)) ≡ changed n f g
@@ -70,21 +70,17 @@ module _ (f g : List ℕ) where
   -- what is computed where the lengths are right, and where one is wrong
   sized : (n : ℕ) (s : List ℕ) → Paged n f → length f ≡ length g → n ≤ length s → marks_on f g s ≡ (Some n, marks_from f g s 0 n)
   unfolding marks_on
-  sized n s paged same room =
-      let some = paged.some in
-      rw (eq-eqb (length f) (length g) same, paged_pages n f paged, ne_eqb n 0 (λ e. omega arith), le-ltb (length s) n room)
+  sized n s paged same room = rw (eq-eqb (length f) (length g) same, paged_pages n f paged, le-ltb (length s) n room)
 
   unsized : (s : List ℕ) → ((n : ℕ) → Paged n f → length f ≡ length g → n ≤ length s → ⊥) → marks_on f g s ≡ (None, s)
   unfolding marks_on
-  unsized s bad =
-      let n = pages_in (length f) in
-      same_or_not (length f) (length g)
-      (λ same. rw (eq-eqb (length f) (length g) same) (same_or_not n 0
-      (λ z. rw (eq-eqb n 0 z))
-      (λ nz. by_cases (ltb (length s) n)
-      (λ h. rw (ne_eqb n 0 nz, h))
-      (λ h. absurd (bad n (pages_paged f nz) same (ltb-false (length s) n h))))))
+  unsized s bad = same_or_not (length f) (length g)
+      (λ same. rw (eq-eqb (length f) (length g) same) (unpaged (pages_in (length f)) (λ n h. bad n (pages_paged f n h) same)))
       (λ apart. rw (ne_eqb (length f) (length g) apart))
+    where
+      unpaged : (o : Option ℕ) → ((n : ℕ) → o ≡ Some n → n ≤ length s → ⊥) → marks_paged f g s o ≡ (None, s)
+      unpaged None bad = refl
+      unpaged (Some n) bad = by_cases (ltb (length s) n) (λ h. rw h) (λ h. absurd (bad n refl (ltb-false (length s) n h)))
 
 -- both parts of a pair
 pub parts : {p : Option ℕ × List ℕ} {x : Option ℕ} {y : List ℕ} → p ≡ (x, y) → (p.0 ≡ x) × (p.1 ≡ y)

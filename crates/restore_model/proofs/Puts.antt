@@ -16,8 +16,8 @@ use Rattle.ledger.proofs.Lists.Digits.{length_digits}
 use Rattle.ledger.specs.Bytes.{page_in}
 use Rattle.frames_model.specs.Texts.{hex_put}
 use Rattle.frames_model.proofs.Texts.{length_hex}
-use Rattle.ledger.specs.Journal.Writes.{line, image_line, ready_line}
-use Rattle.restore_model.specs.Texts.{digits_put, image_put, ready_put}
+use Rattle.ledger.specs.Journal.Writes.{line, image_line}
+use Rattle.restore_model.specs.Texts.{digits_put, image_put, mark_put}
 
 -- the text's length
 pub length_line : (bs : List ℕ) → length (line bs) ≡ 2 * length bs + 1
@@ -60,6 +60,7 @@ image_put_lem out at f p full room =
     let e : at + 4 + 2 * length (page_in f p) ≡ at + 1028 = omega arith in
     rw e at (line_put (p / 256 % 256 ∷ p % 256 ∷ []) (page_in f p) out at (omega arith))
 
-pub ready_put_lem : (out : List ℕ) (at : ℕ) → at + 5 ≤ length out → ready_put out at ≡ sets out at ready_line
-unfolding ready_put digits_put
-ready_put_lem out at room = rw add-zero at (line_put (0 ∷ 0 ∷ []) [] out at (omega arith))
+-- a line of a number alone
+pub mark_put_lem : (out : List ℕ) (at number : ℕ) → at + 5 ≤ length out → mark_put out at number ≡ sets out at (line (number / 256 ∷ number % 256 ∷ []))
+unfolding mark_put digits_put
+mark_put_lem out at number room = rw add-zero at (line_put (number / 256 ∷ number % 256 ∷ []) [] out at (omega arith))

@@ -1,10 +1,10 @@
 -- The line that is put is the one that is due.
-use Prim.Native.Nat.{ℕ, ◌+◌, ◌*◌, ◌≤◌, ◌<◌}
+use Prim.Native.Nat.{ℕ, ◌*◌, ◌≤◌, ◌<◌}
 use mathlib.Core.Path.{◌≡◌, refl, ◌∙◌}
 use mathlib.Core.Logic.{◌⊎◌, inl, inr}
 use mathlib.Core.List.{List, [], ◌∷◌}
 use native.Mathlib.Omega.{arith}
-use native.Mathlib.Nat.{add-zero, zero-add}
+use native.Mathlib.Nat.{zero-add}
 use lib.ListN.{length}
 use lib.Seq.{sets, sets-eq}
 use borrow.Author.Tests.{ne_eqb, lt-ltb, le-ltb}
@@ -14,15 +14,10 @@ use Rattle.ledger.specs.declared.Due.TheVariants.{Image, Ready, Store, Done, Bac
 use Rattle.ledger.specs.Journal.Writes.{image_line, ready_line, done_line, append}
 use Rattle.ledger.specs.Journal.Dues.{write_due}
 use Rattle.journal_laws.proofs.Places.{page_full}
-use Rattle.restore_model.specs.Texts.{digits_put}
-use Rattle.restore_model.specs.Plans.{done_put, line_on}
+use Rattle.restore_model.specs.Plans.{line_on}
 use Rattle.ledger.specs.Journal.Promises.{InFile, PutsLine}
-use Rattle.restore_model.proofs.Puts.{length_line, length_image, line_put, image_put_lem, ready_put_lem}
+use Rattle.restore_model.proofs.Puts.{length_line, length_image, image_put_lem, mark_put_lem}
 use Rattle.restore_model.proofs.Marks.{parts}
-
-done_put_lem : (out : List ℕ) (at : ℕ) → at + 5 ≤ length out → done_put out at ≡ sets out at done_line
-unfolding done_put digits_put
-done_put_lem out at room = rw add-zero at (line_put (255 ∷ 255 ∷ []) [] out at (omega arith))
 
 -- the three lines
 data Line (f : List ℕ) : Due → List ℕ → Type 0 where
@@ -64,10 +59,10 @@ module _ (f : List ℕ) where
         )
     put_is d bs Line.ready fits room =
         let long = length_line (0 ∷ 0 ∷ []) in
-        rw (le-ltb (length out) 5 (omega arith), ready_put_lem out 0 (omega arith), long)
+        rw (le-ltb (length out) 5 (omega arith), mark_put_lem out 0 0 (omega arith), long)
     put_is d bs Line.done fits room =
         let long = length_line (255 ∷ 255 ∷ []) in
-        rw (le-ltb (length out) 5 (omega arith), done_put_lem out 0 (omega arith), long)
+        rw (le-ltb (length out) 5 (omega arith), mark_put_lem out 0 65535 (omega arith), long)
 
     no_room_is : (d : Due) (bs : List ℕ) → Line f d bs → InFile f d → length out < length bs → line_on f d out ≡ (None, out)
     unfolding line_on

@@ -1,22 +1,24 @@
 -- What the journal's recovery computes is `recovery`.
 use Prim.Native.Nat.{ℕ, ◌*◌, ◌-◌, ◌≤◌, ◌<◌}
-use mathlib.Core.Path.{◌≡◌, sym, ◌∙◌, ap}
-use mathlib.Core.Bool.{cond}
+use mathlib.Core.Path.{◌≡◌, refl, sym, ◌∙◌, ap}
 use mathlib.Core.List.{List, [], ◌∷◌, ◌++◌}
 use native.Mathlib.Omega.{arith}
 use native.Mathlib.Nat.{zero-add}
 use lib.ListN.{length, get_or, take, drop, replicate, length-replicate, get_or-replicate, get_or-append}
 use lib.Seq.{length-sets, sets-eq, length-take-le, get_or-take, drop_at}
-use lib.Dec.{eqb, ltb}
-use borrow.Author.Tests.{eq-eqb, ne_eqb, le-ltb, ltb-false}
+use lib.Dec.{ltb}
+use borrow.Author.Tests.{eq-eqb, le-ltb, ltb-false}
+use Rattle.std.proofs.Common.{Option, Some, None, Result}
+use Rattle.std.specs.Bool.{⊤}
 use Rattle.ledger.specs.Numbers.{elem}
-use Rattle.ledger.proofs.Lists.Tests.{by_cases, same_or_not}
+use Rattle.ledger.proofs.Lists.Tests.{by_cases}
 use Rattle.model.specs.Moves.{part_put}
 use Rattle.ledger.specs.Journal.Writes.{Write, clear, disk, performed}
 use Rattle.ledger.specs.Journal.Recovery.{Line, Group, finished, imaged, readied, wrong, last_group, Recovery, refuse, restore, recovery_of, recovery}
 use Rattle.journal_laws.proofs.RecoveryWrites.{stored_clear, file_left}
 use Rattle.restore_model.specs.Texts.{pages_in}
-use Rattle.restore_model.specs.Walks.{walk_on, untold, restored_on, answered, recover_on}
+use Rattle.restore_model.specs.declared.Refused.{Refused}
+use Rattle.restore_model.specs.Walks.{walk_on, untold, restored_on, walked, paged, recovery_on, status, recover_on}
 use Rattle.ledger.specs.Journal.Promises.{Paged, stored_in, Told, Restores}
 use Rattle.restore_model.proofs.Sizes.{paged_pages, pages_paged}
 use Rattle.restore_model.proofs.Steps.{Backs}
@@ -67,28 +69,29 @@ abbrev Answers : ℕ → List ℕ → List ℕ → List ℕ → ℕ × List ℕ 
 Answers n f j s t (refuse number) = t ≡ (number, f, s)
 Answers n f j s t (restore ws) = (u : List ℕ) × (t ≡ (0, (performed ws (disk f j)).file, u)) × Told n ws s u
 
-module _ (n : ℕ) (f j s : List ℕ) (paged : Paged n f) (room : n ≤ length s) where
-  sized : recover_on f j s ≡ cond (eqb (walk_on n j).group 3) (13, f, s) (answered 0 (restored_on f j s n (walk_on n j)))
-  unfolding recover_on
-  sized =
-      let some = paged.some in
-      rw (paged_pages n f paged, ne_eqb n 0 (λ e. omega arith), le-ltb (length s) n room)
+module _ (n : ℕ) (f j s : List ℕ) (sizes : Paged n f) (room : n ≤ length s) where
+  abbrev numbered : Result ⊤ Refused × List ℕ × List ℕ → ℕ × List ℕ × List ℕ
+  numbered r = (status r.0, r.1, r.2)
+
+  sized : recover_on f j s ≡ numbered (walked f s (walk_on n j).group (restored_on f j s n (walk_on n j)))
+  unfolding recover_on recovery_on
+  sized = rw (paged_pages n f sizes, le-ltb (length s) n room)
 
   comes : (g : Group) → Walked n j (walk_on n j) g → Answers n f j s (recover_on f j s) (recovery_of g)
   unfolding restored_on performed
-  comes finished w = (untold s n, sized ∙ rw w.shown, none_told n s paged.few room)
-  comes (imaged last back) w = (untold s n, sized ∙ rw w.shown.0, none_told n s paged.few room)
+  comes finished w = (untold s n, sized ∙ rw w.shown, none_told n s sizes.few room)
+  comes (imaged last back) w = let (from, is1, is, b, lines) = w.shown in (untold s n, sized ∙ rw is1, none_told n s sizes.few room)
   comes (readied back) w =
-      let (is2, is, b, lines) = w.shown in
-      (marks back (untold s n), sized ∙ rw (is2, back_is n j b (length j) (walk_on n j).from f (untold s n) j _ lines (omega arith), file_left back (disk f j)), back_told n s paged.few room b)
+      let (from, is2, is, b, lines) = w.shown in
+      (marks back (untold s n), sized ∙ rw (is2, back_is n j b (length j) from f (untold s n) j _ lines (omega arith), file_left back (disk f j)), back_told n s sizes.few room b)
   comes wrong w = sized ∙ rw w.shown
 
   recovery_is : recovery n (disk f j) ≡ recovery_of (last_group n j)
   unfolding recovery
-  recovery_is = rw (eq-eqb (length f) (512 * n) paged.size)
+  recovery_is = rw (eq-eqb (length f) (512 * n) sizes.size)
 
   answers : Answers n f j s (recover_on f j s) (recovery n (disk f j))
-  answers = rw recovery_is (comes (last_group n j) (walk_shows n paged.few j))
+  answers = rw recovery_is (comes (last_group n j) (walk_shows n sizes.few j))
 
 -- the parts of an answer
 parts : {t : ℕ × List ℕ × List ℕ} {r x : ℕ} {g u h v : List ℕ} → t ≡ (r, g, u) → t ≡ (x, h, v) → (r ≡ x) × (g ≡ h) × (u ≡ v)
@@ -101,14 +104,14 @@ parts e q =
 
 pub restores : (f j s : List ℕ) (r : ℕ) (f' s' : List ℕ) → recover_on f j s ≡ (r, f', s') → Restores f j s r f' s'
 restores f j s r f' s' e = record {
-  wrong_size = λ bad. parts e (unfold recover_on in same_or_not (pages_in (length f)) 0
-      (λ z. rw (eq-eqb (pages_in (length f)) 0 z))
-      (λ nz. by_cases (ltb (length s) (pages_in (length f)))
-      (λ h. rw (ne_eqb (pages_in (length f)) 0 nz, h))
-      (λ h. absurd (bad (pages_in (length f)) (pages_paged f nz) (ltb-false (length s) (pages_in (length f)) h)))));
+  wrong_size = λ bad. parts e (unfold recover_on recovery_on in unpaged (pages_in (length f)) (λ n h. bad n (pages_paged f n h)));
   refused = λ n number paged room q. parts e (rw q at (answers n f j s paged room));
   restored = λ n ws paged room q.
       let (u, t, told) = rw q at (answers n f j s paged room) in
       let (a, b, c) = parts e t in
       (a, b, rw c told);
 }
+  where
+    unpaged : (o : Option ℕ) → ((n : ℕ) → o ≡ Some n → n ≤ length s → ⊥) → ◌≡◌ {A = ℕ × List ℕ × List ℕ} (status (paged f j s o).0, (paged f j s o).1, (paged f j s o).2) (2, f, s)
+    unpaged None bad = refl
+    unpaged (Some n) bad = by_cases (ltb (length s) n) (λ h. rw h) (λ h. absurd (bad n refl (ltb-false (length s) n h)))

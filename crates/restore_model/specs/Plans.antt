@@ -3,7 +3,7 @@ use Rattle.std.specs.Prelude.{ℕ, zero, suc, ◌+◌, ◌*◌, Option, Some, No
 use Rattle.std.specs.Option.{option_map, unwrap_or}
 use Rattle.ledger.specs.declared.Due.{Due}
 use Rattle.ledger.specs.declared.Due.TheVariants.{Image, Ready, Store, Done, Back, Empty}
-use Rattle.restore_model.specs.Texts.{pages_in, differs, digits_put, image_put, ready_put}
+use Rattle.restore_model.specs.Texts.{pages_in, differs, image_put, mark_put}
 
 -- the lowest page told past i, where `ms` is what s says past it
 unfoldable pub marked_from : ℕ → List ℕ → Option ℕ
@@ -37,15 +37,12 @@ marks_from f g s i zero = s
 marks_from f g s i (suc k) = marks_from f g (set s i (differs f g (i + 1))) (i + 1) k
 
 -- the same of all pages, and how many there are; none where a length is wrong
-unfoldable pub marks_on : List ℕ → List ℕ → List ℕ → Option ℕ × List ℕ
-marks_on f g s =
-    let n = pages_in (length f) in
-    cond (eqb (length f) (length g))
-    (cond (eqb n 0) (None, s) (cond (ltb (length s) n) (None, s) (Some n, marks_from f g s 0 n)))
-    (None, s)
+abbrev pub marks_paged : List ℕ → List ℕ → List ℕ → Option ℕ → Option ℕ × List ℕ
+marks_paged f g s None = (None, s)
+marks_paged f g s (Some n) = cond (ltb (length s) n) (None, s) (Some n, marks_from f g s 0 n)
 
-unfoldable pub done_put : List ℕ → ℕ → List ℕ
-done_put out at = set (digits_put out at (255 ∷ 255 ∷ [])) (at + 4) 10
+unfoldable pub marks_on : List ℕ → List ℕ → List ℕ → Option ℕ × List ℕ
+marks_on f g s = cond (eqb (length f) (length g)) (marks_paged f g s (pages_in (length f))) (None, s)
 
 -- a line of n bytes put where the output has room for it, and its length
 abbrev pub where_room : ℕ → List ℕ → List ℕ → Option ℕ × List ℕ
@@ -56,8 +53,8 @@ unfoldable pub line_on : List ℕ → Due → List ℕ → Option ℕ × List �
 line_on f (Image p) out =
     cond (eqb p 0) (None, out)
     (cond (ltb (length f) (512 * p)) (None, out) (where_room 1029 out (image_put out 0 f p)))
-line_on f Ready out = where_room 5 out (ready_put out 0)
+line_on f Ready out = where_room 5 out (mark_put out 0 0)
 line_on f (Store p) out = (None, out)
-line_on f Done out = where_room 5 out (done_put out 0)
+line_on f Done out = where_room 5 out (mark_put out 0 65535)
 line_on f (Back p) out = (None, out)
 line_on f Empty out = (None, out)

@@ -1,17 +1,22 @@
 -- The text of a call's images and ready line, put into an output; nothing is put where there is no place for it.
 -- `f` is the file before the call and `g` after it.
-use Rattle.std.specs.Prelude.{ℕ, zero, suc, ◌+◌, ◌*◌, ◌/◌, ◌%◌, cond, List, [], ◌∷◌, length, set, eqb, ltb}
+use Rattle.std.specs.Prelude.{ℕ, zero, suc, ◌+◌, ◌*◌, ◌/◌, ◌%◌, Option, Some, None, Bool, cond, not, ◌&&◌, List, [], ◌∷◌, length, set, eqb, ltb}
+use Rattle.std.specs.Option.{unwrap_or}
 use Rattle.ledger.specs.Numbers.{same_key}
+use Rattle.ledger.specs.Rules.{between}
 use Rattle.ledger.specs.Bytes.{page_in}
 use Rattle.frames_model.specs.Texts.{hex_put}
 
--- how many pages k bytes are, 1 to 128; or 0
-unfoldable pub pages_in : ℕ → ℕ
-pages_in k = cond (eqb (k % 512) 0) (cond (ltb 128 (k / 512)) 0 (k / 512)) 0
+-- how many pages k bytes are, where that is 1 to 128
+unfoldable pub pages_in : ℕ → Option ℕ
+pages_in k = cond (eqb (k % 512) 0 && between (k / 512) 1 128) (Some (k / 512)) None
 
--- 1 where page p differs
+-- page p differs, and the same as a number
+unfoldable pub apart : List ℕ → List ℕ → ℕ → Bool
+apart f g p = not (same_key (page_in f p) (page_in g p))
+
 unfoldable pub differs : List ℕ → List ℕ → ℕ → ℕ
-differs f g p = cond (same_key (page_in f p) (page_in g p)) 0 1
+differs f g p = cond (apart f g p) 1 0
 
 -- how many pages differ, from p on, k of them; c is the count so far
 unfoldable pub count_from : List ℕ → List ℕ → ℕ → ℕ → ℕ → ℕ
@@ -32,7 +37,7 @@ image_put out at f p = set (digits_put (digits_put out at (p / 256 % 256 ∷ p %
 
 -- the same where the page differs, with the length of what was put
 unfoldable pub changed_put : List ℕ → ℕ → List ℕ → List ℕ → ℕ → ℕ × List ℕ
-changed_put out at f g p = cond (eqb (differs f g p) 0) (0, out) (1029, image_put out at f p)
+changed_put out at f g p = cond (apart f g p) (1029, image_put out at f p) (0, out)
 
 -- the images of the pages that differ, from p on, k of them: where they end, and the output
 unfoldable pub images_from : List ℕ → ℕ → List ℕ → List ℕ → ℕ → ℕ → ℕ × List ℕ
@@ -41,20 +46,24 @@ images_from out at f g p (suc k) =
     let q : ℕ × List ℕ = changed_put out at f g p in
     images_from q.1 (at + q.0) f g (p + 1) k
 
-unfoldable pub ready_put : List ℕ → ℕ → List ℕ
-ready_put out at = set (digits_put out at (0 ∷ 0 ∷ [])) (at + 4) 10
+-- a line of a number alone: 0 ready, 65535 done
+unfoldable pub mark_put : List ℕ → ℕ → ℕ → List ℕ
+mark_put out at number = set (digits_put out at (number / 256 ∷ number % 256 ∷ [])) (at + 4) 10
 
 -- the images and the ready line
 unfoldable pub start_put : List ℕ → List ℕ → List ℕ → ℕ → List ℕ
-start_put out f g n = let q : ℕ × List ℕ = images_from out 0 f g 1 n in ready_put q.1 q.0
+start_put out f g n = let q : ℕ × List ℕ = images_from out 0 f g 1 n in mark_put q.1 q.0 0
 
--- the same where some page differs and the output has room: its length, and the output; 4294967295 where a length is wrong, or there is no room
-unfoldable pub images_on : List ℕ → List ℕ → List ℕ → ℕ × List ℕ
-images_on f g out =
-    let n = pages_in (length f) in
+-- the same where some page differs and the output has room: its length, and the output; none where a length is wrong, or there is no room
+abbrev pub text_paged : List ℕ → List ℕ → List ℕ → Option ℕ → Option ℕ × List ℕ
+text_paged f g out None = (None, out)
+text_paged f g out (Some n) =
     let c = count_of f g n in
-    cond (eqb (length f) (length g))
-    (cond (eqb n 0) (4294967295, out)
-    (cond (eqb c 0) (0, out)
-    (cond (ltb (length out) (1029 * c + 5)) (4294967295, out) (1029 * c + 5, start_put out f g n))))
-    (4294967295, out)
+    cond (eqb c 0) (Some 0, out) (cond (ltb (length out) (1029 * c + 5)) (None, out) (Some (1029 * c + 5), start_put out f g n))
+
+unfoldable pub text_on : List ℕ → List ℕ → List ℕ → Option ℕ × List ℕ
+text_on f g out = cond (eqb (length f) (length g)) (text_paged f g out (pages_in (length f))) (None, out)
+
+-- the same with 4294967295 for none
+unfoldable pub images_on : List ℕ → List ℕ → List ℕ → ℕ × List ℕ
+images_on f g out = let r : Option ℕ × List ℕ = text_on f g out in (unwrap_or r.0 4294967295, r.1)

@@ -1,61 +1,54 @@
 -- Recovery of a file from a journal `j`: the journal walked byte by byte, and the last group's images put back.
-use Rattle.std.specs.Prelude.{ℕ, zero, suc, ◌+◌, ◌*◌, ◌-◌, ◌%◌, Bool, true, false, cond, List, [], ◌∷◌, length, get_or, set, replicate, eqb, ltb, leb}
+use Rattle.std.specs.Prelude.{ℕ, zero, suc, ◌+◌, ◌*◌, ◌-◌, ◌%◌, ⊤, Option, Some, None, Result, Ok, Err, Bool, true, false, cond, List, [], ◌∷◌, length, get_or, set, replicate, eqb, ltb, leb}
 use Rattle.ledger.specs.Numbers.{part}
 use Rattle.ledger.specs.Player.{digit_value}
 use Rattle.model.specs.Moves.{part_put, fill}
+use Rattle.restore_model.specs.declared.Said.{Said}
+use Rattle.restore_model.specs.declared.Said.TheVariants.{Image, Ready, Done, Malformed}
+use Rattle.restore_model.specs.declared.Group.{Group}
+use Rattle.restore_model.specs.declared.Group.TheVariants.{Finished, Imaged, Readied, Wrong}
 use Rattle.restore_model.specs.declared.Walk.{Walk}
+use Rattle.restore_model.specs.declared.Refused.{Refused}
+use Rattle.restore_model.specs.declared.Refused.TheVariants.{BadSize, BadJournal}
 use Rattle.restore_model.specs.Texts.{pages_in}
 
--- the byte that two digits say, and the page number that four do; another character reads as digit 0
+-- the byte that two digits say, and the number that four do; another character reads as digit 0
 unfoldable pub hex_at : List ℕ → ℕ → ℕ
 hex_at j i = digit_value (get_or j i 0) % 16 * 16 + digit_value (get_or j (i + 1) 0) % 16
 
 unfoldable pub page_said : List ℕ → ℕ → ℕ
 page_said j at = hex_at j at * 256 + hex_at j (at + 2)
 
--- what a line of a page number says, alone and with 512 bytes: 0 ready, 65535 done, the page of an image; 65536 where it is malformed
-unfoldable pub mark_said : ℕ → ℕ
-mark_said page = cond (eqb page 0) page (cond (eqb page 65535) page 65536)
+-- what a line of a number says, alone and with 512 bytes: 0 ready, 65535 done, another the page of an image
+unfoldable pub mark_said : ℕ → Said
+mark_said number = cond (eqb number 0) Ready (cond (eqb number 65535) Done Malformed)
 
-unfoldable pub image_said : ℕ → ℕ → ℕ
-image_said n page = cond (eqb page 0) 65536 (cond (ltb n page) 65536 page)
+unfoldable pub image_said : ℕ → ℕ → Said
+image_said n page = cond (eqb page 0) Malformed (cond (ltb n page) Malformed (Image page))
 
 -- the same of the line that starts at `start` and whose line end is the last byte before `next`; `good` is whether it has digits only
-unfoldable pub said_in : ℕ → List ℕ → ℕ → ℕ → Bool → ℕ
+unfoldable pub said_in : ℕ → List ℕ → ℕ → ℕ → Bool → Said
 said_in n j start next good =
     cond good
     (cond (eqb (next - start) 5) (mark_said (page_said j start))
-    (cond (eqb (next - start) 1029) (image_said n (page_said j start)) 65536))
-    65536
+    (cond (eqb (next - start) 1029) (image_said n (page_said j start)) Malformed))
+    Malformed
 
--- the group after a line
-unfoldable pub group_after : ℕ → ℕ → ℕ → ℕ
-group_after group last said =
-    cond (eqb said 0) (cond (eqb group 1) 2 3)
-    (cond (eqb said 65535) (cond (eqb group 2) 0 3)
-    (cond (eqb said 65536) 3
-    (cond (eqb group 0) 1
-    (cond (eqb group 1) (cond (ltb last said) 1 3) 3))))
-
--- where the group starts after a line that starts at `start`
-unfoldable pub from_after : ℕ → ℕ → ℕ → ℕ
-from_after group from start = cond (eqb group 0) start from
+-- the group after a line that starts at `start`
+abbrev pub group_after : Group → Said → ℕ → Group
+group_after Finished (Image p) start = Imaged start p
+group_after (Imaged from last) (Image p) start = cond (ltb last p) (Imaged from p) Wrong
+group_after (Imaged from last) Ready start = Readied from
+group_after (Readied from) Done start = Finished
+group_after g said start = Wrong
 
 -- a line read, that ends before `next`
 unfoldable pub line_read : ℕ → List ℕ → Walk → ℕ → Walk
-line_read n j w next =
-    let said = said_in n j w.start next w.good in
-    record {
-      group = group_after w.group w.last said;
-      last = said;
-      from = from_after w.group w.from w.start;
-      start = next;
-      good = true;
-    }
+line_read n j w next = record { group = group_after w.group (said_in n j w.start next w.good) w.start; start = next; good = true }
 
 -- a line that has another character
 abbrev pub spoiled : Walk → Walk
-spoiled w = record { group = w.group; last = w.last; from = w.from; start = w.start; good = false }
+spoiled w = record { group = w.group; start = w.start; good = false }
 
 -- a byte read, that stands before `next`
 unfoldable pub byte_read : ℕ → List ℕ → Walk → ℕ → ℕ → Walk
@@ -67,7 +60,7 @@ walk_from n j i [] w = w
 walk_from n j i (c ∷ cs) w = walk_from n j (i + 1) cs (byte_read n j w (i + 1) c)
 
 abbrev pub unwalked : Walk
-unwalked = record { group = 0; last = 0; from = 0; start = 0; good = true }
+unwalked = record { group = Finished; start = 0; good = true }
 
 unfoldable pub walk_on : ℕ → List ℕ → Walk
 walk_on n j = walk_from n j 0 j unwalked
@@ -95,17 +88,35 @@ unfoldable pub untold : List ℕ → ℕ → List ℕ
 untold s n = part_put s 0 (part 0 n (replicate 128 0))
 
 -- a walk's last group put back where it is readied
+abbrev pub put_back : List ℕ → List ℕ → List ℕ → Group → List ℕ × List ℕ
+put_back f j s (Readied from) = back_from j f s from (length j)
+put_back f j s g = (f, s)
+
 unfoldable pub restored_on : List ℕ → List ℕ → List ℕ → ℕ → Walk → List ℕ × List ℕ
-restored_on f j s n w = cond (eqb w.group 2) (back_from j f (untold s n) w.from (length j)) (f, untold s n)
+restored_on f j s n w = put_back f j (untold s n) w.group
 
-abbrev pub answered : ℕ → List ℕ × List ℕ → ℕ × List ℕ × List ℕ
-answered r p = (r, p.0, p.1)
+-- recovery: what it comes to, the file, and the pages stored
+abbrev pub walked : List ℕ → List ℕ → Group → List ℕ × List ℕ → Result ⊤ Refused × List ℕ × List ℕ
+walked f s Wrong p = (Err BadJournal, f, s)
+walked f s g p = (Ok tt, p.0, p.1)
 
--- recovery: its number, the file, and the pages stored
-unfoldable pub recover_on : List ℕ → List ℕ → List ℕ → ℕ × List ℕ × List ℕ
-recover_on f j s =
-    let n = pages_in (length f) in
+abbrev pub paged : List ℕ → List ℕ → List ℕ → Option ℕ → Result ⊤ Refused × List ℕ × List ℕ
+paged f j s None = (Err BadSize, f, s)
+paged f j s (Some n) =
     let w : Walk = walk_on n j in
-    cond (eqb n 0) (2, f, s)
-    (cond (ltb (length s) n) (2, f, s)
-    (cond (eqb w.group 3) (13, f, s) (answered 0 (restored_on f j s n w))))
+    cond (ltb (length s) n) (Err BadSize, f, s) (walked f s w.group (restored_on f j s n w))
+
+unfoldable pub recovery_on : List ℕ → List ℕ → List ℕ → Result ⊤ Refused × List ℕ × List ℕ
+recovery_on f j s = paged f j s (pages_in (length f))
+
+-- the same with its number
+abbrev pub refused_number : Refused → ℕ
+refused_number BadSize = 2
+refused_number BadJournal = 13
+
+abbrev pub status : Result ⊤ Refused → ℕ
+status (Ok done) = 0
+status (Err why) = refused_number why
+
+unfoldable pub recover_on : List ℕ → List ℕ → List ℕ → ℕ × List ℕ × List ℕ
+recover_on f j s = let r : Result ⊤ Refused × List ℕ × List ℕ = recovery_on f j s in (status r.0, r.1, r.2)

@@ -1,55 +1,47 @@
--- The ways out of the exported functions.
+-- The ways out of the functions that C calls.
 use Prim.Native.Nat.{ℕ, ◌+◌, ◌*◌, ◌≤◌, ◌<◌}
 use mathlib.Core.Path.{◌≡◌}
 use mathlib.Core.List.{List}
 use borrow.Author.Tests.{eq-eqb, ne_eqb, lt-ltb, le-ltb}
 use lib.ListN.{length}
-use Rattle.restore_model.specs.declared.Walk.{Walk}
-use Rattle.restore_model.specs.Texts.{pages_in, count_of, start_put, images_on}
-use Rattle.restore_model.specs.Walks.{walk_on, restored_on, recover_on}
+use Rattle.std.proofs.Common.{Option, Some, None, Result}
+use Rattle.std.specs.Bool.{⊤}
+use Rattle.std.specs.Option.{unwrap_or}
+use Rattle.restore_model.specs.declared.Refused.{Refused}
+use Rattle.restore_model.specs.Texts.{pages_in, count_of, start_put, text_on, images_on}
+use Rattle.restore_model.specs.Walks.{recovery_on, status, recover_on}
 
--- gerunjap_images
+-- put_text
 module _ (f g out : List ℕ) where
-  pub images_apart : (length f ≡ length g → ⊥) → images_on f g out ≡ (4294967295, out)
-  unfolding images_on
-  images_apart m = rw (ne_eqb (length f) (length g) m)
+  pub text_apart : (length f ≡ length g → ⊥) → text_on f g out ≡ (None, out)
+  unfolding text_on
+  text_apart m = rw (ne_eqb (length f) (length g) m)
 
-  module _ (e : length f ≡ length g) (n : ℕ) (en : n ≡ pages_in (length f)) where
-    pub images_size : n ≡ 0 → images_on f g out ≡ (4294967295, out)
-    unfolding images_on
-    images_size z = rw (eq-eqb (length f) (length g) e, ← en, eq-eqb n 0 z)
+  module _ (e : length f ≡ length g) where
+    pub text_unpaged : None ≡ pages_in (length f) → text_on f g out ≡ (None, out)
+    unfolding text_on
+    text_unpaged en = rw (eq-eqb (length f) (length g) e, ← en)
 
-    module _ (nz : n ≡ 0 → ⊥) (c : ℕ) (ec : c ≡ count_of f g n) where
-      pub images_none : c ≡ 0 → images_on f g out ≡ (0, out)
-      unfolding images_on
-      images_none z = rw (eq-eqb (length f) (length g) e, ← en, ne_eqb n 0 nz, ← ec, eq-eqb c 0 z)
+    module _ (n : ℕ) (en : Some n ≡ pages_in (length f)) (c : ℕ) (ec : c ≡ count_of f g n) where
+      pub text_none : c ≡ 0 → text_on f g out ≡ (Some 0, out)
+      unfolding text_on
+      text_none z = rw (eq-eqb (length f) (length g) e, ← en, ← ec, eq-eqb c 0 z)
 
       module _ (cz : c ≡ 0 → ⊥) where
-        pub images_room : length out < 1029 * c + 5 → images_on f g out ≡ (4294967295, out)
-        unfolding images_on
-        images_room h = rw (eq-eqb (length f) (length g) e, ← en, ne_eqb n 0 nz, ← ec, ne_eqb c 0 cz, lt-ltb (length out) (1029 * c + 5) h)
+        pub text_room : length out < 1029 * c + 5 → text_on f g out ≡ (None, out)
+        unfolding text_on
+        text_room h = rw (eq-eqb (length f) (length g) e, ← en, ← ec, ne_eqb c 0 cz, lt-ltb (length out) (1029 * c + 5) h)
 
-        pub images_put : (o : List ℕ) → 1029 * c + 5 ≤ length out → start_put out f g n ≡ o → images_on f g out ≡ (1029 * c + 5, o)
-        unfolding images_on
-        images_put o h eo =
-            rw (eq-eqb (length f) (length g) e, ← en, ne_eqb n 0 nz, ← ec, ne_eqb c 0 cz, le-ltb (length out) (1029 * c + 5) h, eo)
+        pub text_put : (o : List ℕ) → 1029 * c + 5 ≤ length out → start_put out f g n ≡ o → text_on f g out ≡ (Some (1029 * c + 5), o)
+        unfolding text_on
+        text_put o h eo = rw (eq-eqb (length f) (length g) e, ← en, ← ec, ne_eqb c 0 cz, le-ltb (length out) (1029 * c + 5) h, eo)
+
+-- gerunjap_images
+pub images_numbered : (f g out : List ℕ) (t : Option ℕ) (o : List ℕ) (r : ℕ) → text_on f g out ≡ (t, o) → r ≡ unwrap_or t 4294967295 → images_on f g out ≡ (r, o)
+unfolding images_on
+images_numbered f g out t o r e er = rw (e, er)
 
 -- gerunjap_recover
-module _ (f j s : List ℕ) (n : ℕ) (en : n ≡ pages_in (length f)) where
-  pub recover_size : n ≡ 0 → recover_on f j s ≡ (2, f, s)
-  unfolding recover_on
-  recover_size z = rw (← en, eq-eqb n 0 z)
-
-  module _ (nz : n ≡ 0 → ⊥) where
-    pub recover_room : length s < n → recover_on f j s ≡ (2, f, s)
-    unfolding recover_on
-    recover_room h = rw (← en, ne_eqb n 0 nz, lt-ltb (length s) n h)
-
-    module _ (h : n ≤ length s) (w : Walk) (ew : w ≡ walk_on n j) where
-      pub recover_wrong : w.group ≡ 3 → recover_on f j s ≡ (13, f, s)
-      unfolding recover_on
-      recover_wrong e = rw (← en, ne_eqb n 0 nz, le-ltb (length s) n h, ← ew, eq-eqb w.group 3 e)
-
-      pub recover_done : (g u : List ℕ) → (w.group ≡ 3 → ⊥) → restored_on f j s n w ≡ (g, u) → recover_on f j s ≡ (0, g, u)
-      unfolding recover_on
-      recover_done g u m e = rw (← en, ne_eqb n 0 nz, le-ltb (length s) n h, ← ew, ne_eqb w.group 3 m, e)
+pub recovered_status : (f j s : List ℕ) (r : Result ⊤ Refused) (g u : List ℕ) → recovery_on f j s ≡ (r, g, u) → recover_on f j s ≡ (status r, g, u)
+unfolding recover_on
+recovered_status f j s r g u e = rw e

@@ -1,72 +1,56 @@
--- The text of a call: pages counted and compared, digits and lines put.
-use Prim.Native.Nat.{ℕ, zero, suc, ◌+◌, ◌*◌, ◌-◌, ◌/◌, ◌%◌, ◌≤◌, ◌<◌}
-use mathlib.Core.Path.{◌≡◌, sym, ◌∙◌}
-use mathlib.Core.Bool.{Bool, true, false}
-use mathlib.Core.List.{List}
+-- The text of a call: the turns of its loops.
+use Prim.Native.Nat.{ℕ, zero, suc, ◌+◌, ◌-◌, ◌≤◌, ◌<◌}
+use mathlib.Core.Path.{◌≡◌, refl, sym, ◌∙◌}
+use mathlib.Core.Bool.{Bool, true, false, not, cond}
+use mir.Val.{bool_byte}
+use native.Mathlib.Nat.{add-zero}
+use mathlib.Core.List.{List, [], ◌∷◌}
 use native.Mathlib.Omega.{arith}
 use native.Mathlib.Numerals.{add-one}
-use borrow.Author.Tests.{eq-eqb, ne_eqb, lt-ltb, le-ltb}
+use borrow.Author.Tests.{lt-ltb, le-ltb}
+use lib.Dec.{eqb}
 use lib.ListN.{length, get_or, drop, drop_of_length-le}
+use lib.Pointwise.{pointwise}
 use lib.Seq.{drop-cons}
-use Rattle.ledger.specs.Numbers.{part, same_key}
+use Rattle.std.specs.List.{filter, range_with_len}
+use Rattle.ledger.proofs.Lists.Tests.{by_cases}
+use Rattle.ledger.specs.Numbers.{same_key}
 use Rattle.ledger.specs.Bytes.{page_in}
 use Rattle.frames_model.specs.Texts.{hex_put}
-use Rattle.restore_model.specs.Texts.{pages_in, differs, count_from, digits_put, changed_put, image_put, images_from, ready_put, start_put}
+use Rattle.restore_model.specs.Texts.{apart, differs, count_from, digits_put, changed_put, images_from}
 
--- what is left, one less
-pub sub_one : (n : ℕ) → suc n - 1 ≡ n
-sub_one n = omega arith
+-- the bytes of two slices that are the same
+pub same_bytes : (a b : List ℕ) → pointwise eqb a b ≡ same_key a b
+unfolding same_key
+same_bytes [] [] = refl
+same_bytes [] (y ∷ b) = refl
+same_bytes (x ∷ a) [] = refl
+same_bytes (x ∷ a) (y ∷ b) = rw (same_bytes a b) refl
 
--- pages_in
-module _ (k : ℕ) where
-  pub pages_broken : (k % 512 ≡ 0 → ⊥) → 0 ≡ pages_in k
-  unfolding pages_in
-  pages_broken n = rw (ne_eqb (k % 512) 0 n)
+-- page p differs
+pub pages_differ : (f g a b : List ℕ) (p : ℕ) → a ≡ page_in f p → b ≡ page_in g p → not (pointwise eqb a b) ≡ apart f g p
+unfolding apart
+pages_differ f g a b p ea eb = rw (← ea, ← eb, same_bytes a b)
 
-  pub pages_many : k % 512 ≡ 0 → 128 < k / 512 → 0 ≡ pages_in k
-  unfolding pages_in
-  pages_many e h = rw (eq-eqb (k % 512) 0 e, lt-ltb 128 (k / 512) h)
-
-  pub pages_right : k % 512 ≡ 0 → k / 512 ≤ 128 → k / 512 ≡ pages_in k
-  unfolding pages_in
-  pages_right e h = rw (eq-eqb (k % 512) 0 e, le-ltb 128 (k / 512) h)
-
--- page_in
-module _ (f a : List ℕ) (p : ℕ) where
-  pub page_zero : p ≡ 0 → a ≡ part 0 0 f → a ≡ page_in f p
-  unfolding page_in
-  page_zero e ea = rw (eq-eqb p 0 e) ea
-
-  module _ (n : p ≡ 0 → ⊥) where
-    pub page_past : length f / 512 < p - 1 → a ≡ part 0 0 f → a ≡ page_in f p
-    unfolding page_in
-    page_past h ea = let g : length f ≤ 512 * (p - 1) = omega arith in rw (ne_eqb p 0 n, drop_of_length-le f g) ea
-
-    pub page_some : a ≡ part (512 * (p - 1)) 512 f → a ≡ page_in f p
-    unfolding page_in
-    page_some ea = rw (ne_eqb p 0 n) ea
-
--- differs
-module _ (f g a b : List ℕ) (p : ℕ) (ea : a ≡ page_in f p) (eb : b ≡ page_in g p) (s : Bool) (es : s ≡ same_key a b) where
-  pub differs_not : s ≡ true → 0 ≡ differs f g p
-  unfolding differs
-  differs_not e = rw (← ea, ← eb, ← es, e)
-
-  pub differs_so : s ≡ false → 1 ≡ differs f g p
-  unfolding differs
-  differs_so e = rw (← ea, ← eb, ← es, e)
+pub changed_number : (f g : List ℕ) (p : ℕ) (d : Bool) → d ≡ apart f g p → bool_byte d ≡ differs f g p
+unfolding differs
+changed_number f g p d e = rw (← e) (number d)
+  where
+    number : (b : Bool) → bool_byte b ≡ cond b 1 0
+    number true = refl
+    number false = refl
 
 -- count_of
-module _ (f g : List ℕ) (p c : ℕ) where
-  pub count_next : (k x d : ℕ) → count_from f g p c k ≡ x → 0 < k → d ≡ differs f g p → count_from f g (p + 1) (c + d) (k - 1) ≡ x
-  unfolding count_from
-  count_next zero x d inv h e = absurd (omega arith)
-  count_next (suc k) x d inv h e = rw (sub_one k, e) inv
-
-  pub count_end : (k x : ℕ) → count_from f g p c k ≡ x → k ≤ 0 → c ≡ x
-  unfolding count_from
-  count_end zero x inv h = inv
-  count_end (suc k) x inv h = absurd (omega arith)
+module _ (f g : List ℕ) where
+  pub count_filtered : (k i c : ℕ) → c + length (filter (λ i. apart f g (i + 1)) (range_with_len i k)) ≡ count_from f g (i + 1) c k
+  unfolding count_from differs
+  count_filtered zero i c = add-zero c
+  count_filtered (suc k) i c = by_cases (apart f g (i + 1))
+      (λ e.
+      let l = length (filter (λ i. apart f g (i + 1)) (range_with_len (i + 1) k)) in
+      let one : c + suc l ≡ c + 1 + l = omega arith in
+      rw e (one ∙ count_filtered k (i + 1) (c + 1)))
+      (λ e. rw (e, add-zero c) (count_filtered k (i + 1) c))
 
 -- put_digits
 module _ (bs out : List ℕ) (at i : ℕ) (x : List ℕ) (inv : digits_put out at (drop i bs) ≡ x) where
@@ -75,43 +59,24 @@ module _ (bs out : List ℕ) (at i : ℕ) (x : List ℕ) (inv : digits_put out a
   digits_end h = sym inv ∙ rw (drop_of_length-le bs h)
 
   module _ (h : i < length bs) where
-    pub digits_tiny : length out < 2 → x ≡ out
+    pub digits_full : length out < at + 2 → x ≡ out
     unfolding digits_put
-    digits_tiny g = sym inv ∙ rw (drop-cons bs i 0 h, lt-ltb (length out) (at + 2) (omega arith))
+    digits_full g = sym inv ∙ rw (drop-cons bs i 0 h, lt-ltb (length out) (at + 2) g)
 
-    module _ (g : 2 ≤ length out) where
-      pub digits_full : length out - 2 < at → x ≡ out
-      unfolding digits_put
-      digits_full u = sym inv ∙ rw (drop-cons bs i 0 h, lt-ltb (length out) (at + 2) (omega arith))
-
-      pub digits_next : (o : List ℕ) → at ≤ length out - 2 → hex_put out at (get_or bs i 0) ≡ o → digits_put o (at + 2) (drop (i + 1) bs) ≡ x
-      unfolding digits_put
-      digits_next o u e = rw add-one (rw (drop-cons bs i 0 h, le-ltb (length out) (at + 2) (omega arith), e) at inv)
-
--- put_changed
-module _ (f g out : List ℕ) (at p d : ℕ) (ed : d ≡ differs f g p) where
-  pub changed_not : d ≡ 0 → changed_put out at f g p ≡ (0, out)
-  unfolding changed_put
-  changed_not e = rw (← ed, eq-eqb d 0 e)
-
-  pub changed_put_lem : (o : List ℕ) → (d ≡ 0 → ⊥) → image_put out at f p ≡ o → changed_put out at f g p ≡ (1029, o)
-  unfolding changed_put
-  changed_put_lem o n e = rw (← ed, ne_eqb d 0 n, e)
+    pub digits_next : (b : ℕ) (o : List ℕ) → b ≡ get_or bs i 0 → at + 2 ≤ length out → hex_put out at b ≡ o → digits_put o (at + 2) (drop (i + 1) bs) ≡ x
+    unfolding digits_put
+    digits_next b o eb g e = rw (add-one i, ← e, eb) (rw (drop-cons bs i 0 h, le-ltb (length out) (at + 2) g) at inv)
 
 -- put_images
-module _ (f g out : List ℕ) (at p : ℕ) where
-  pub images_next : (k : ℕ) (x : ℕ × List ℕ) (o : List ℕ) (r : ℕ) → images_from out at f g p k ≡ x → 0 < k → changed_put out at f g p ≡ (r, o)
-      → images_from o (at + r) f g (p + 1) (k - 1) ≡ x
+module _ (f g out : List ℕ) where
+  put_turn : (at p k : ℕ) (x : ℕ × List ℕ) (o : List ℕ) (r : ℕ) → images_from out at f g p (suc k) ≡ x → changed_put out at f g p ≡ (r, o) → images_from o (at + r) f g (p + 1) k ≡ x
   unfolding images_from
-  images_next zero x o r inv h e = absurd (omega arith)
-  images_next (suc k) x o r inv h e = rw (sub_one k) (rw e at inv)
+  put_turn at p k x o r inv e = rw e at inv
 
-  pub images_end : (k : ℕ) (x : ℕ × List ℕ) → images_from out at f g p k ≡ x → k ≤ 0 → x ≡ (at, out)
-  unfolding images_from
-  images_end zero x inv h = sym inv
-  images_end (suc k) x inv h = absurd (omega arith)
+  module _ (at i n : ℕ) (x : ℕ × List ℕ) (inv : images_from out at f g (i + 1) (n - i) ≡ x) where
+    pub images_next : (o : List ℕ) (r : ℕ) → i < n → changed_put out at f g (i + 1) ≡ (r, o) → images_from o (at + r) f g (i + 1 + 1) (n - (i + 1)) ≡ x
+    images_next o r h e = let more : n - i ≡ suc (n - (i + 1)) = omega arith in put_turn at (i + 1) (n - (i + 1)) x o r (rw more at inv) e
 
--- put_start
-pub start_put_lem : (out f g : List ℕ) (n end : ℕ) (o p : List ℕ) → images_from out 0 f g 1 n ≡ (end, o) → ready_put o end ≡ p → start_put out f g n ≡ p
-unfolding start_put
-start_put_lem out f g n end o p e r = rw e r
+    pub images_end : n ≤ i → x ≡ (at, out)
+    unfolding images_from
+    images_end h = let none : n - i ≡ 0 = omega arith in sym (rw none at inv)

@@ -45,19 +45,19 @@ module _ (f g s : List ℕ) where
   unfolding marks_on
   mark_apart m = rw (ne_eqb (length f) (length g) m)
 
-  module _ (e : length f ≡ length g) (n : ℕ) (en : n ≡ pages_in (length f)) where
-    pub mark_size : n ≡ 0 → marks_on f g s ≡ (None, s)
+  module _ (e : length f ≡ length g) where
+    pub mark_size : None ≡ pages_in (length f) → marks_on f g s ≡ (None, s)
     unfolding marks_on
-    mark_size z = rw (eq-eqb (length f) (length g) e, ← en, eq-eqb n 0 z)
+    mark_size en = rw (eq-eqb (length f) (length g) e, ← en)
 
-    module _ (nz : n ≡ 0 → ⊥) where
+    module _ (n : ℕ) (en : Some n ≡ pages_in (length f)) where
       pub mark_room : length s < n → marks_on f g s ≡ (None, s)
       unfolding marks_on
-      mark_room h = rw (eq-eqb (length f) (length g) e, ← en, ne_eqb n 0 nz, lt-ltb (length s) n h)
+      mark_room h = rw (eq-eqb (length f) (length g) e, ← en, lt-ltb (length s) n h)
 
       pub mark_put : (u : List ℕ) → n ≤ length s → marks_from f g s 0 n ≡ u → marks_on f g s ≡ (Some n, u)
       unfolding marks_on
-      mark_put u h eu = rw (eq-eqb (length f) (length g) e, ← en, ne_eqb n 0 nz, le-ltb (length s) n h, eu)
+      mark_put u h eu = rw (eq-eqb (length f) (length g) e, ← en, le-ltb (length s) n h, eu)
 
 -- put_image_line
 module _ (f out : List ℕ) (p : ℕ) where
