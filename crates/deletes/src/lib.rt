@@ -4,10 +4,11 @@
 pub mod closing;
 
 ghost use Rattle.std.specs.Prelude.{◌≡◌};
+ghost use Rattle.ledger.specs.Answers.{outcome_of};
 ghost use Rattle.delete_model.specs.Deletes.{deleted_with, decided_on, deleted_from, delete_on};
 
 use doomed::{entries, marks};
-use ledger::{Answer, Currency, Outcome};
+use ledger::{Answer, Currency, Outcome, Refusal};
 use page::fields;
 
 // Types that a table can have: the levels below a record are fewer.
@@ -41,12 +42,12 @@ fn delete_from(table: &[u16], file: &mut [u8], marks: &mut [u8], cur: Currency) 
 }
 
 // DELETE: the answer names the run's record and counts all that went.
-pub fn delete(table: &[u16], file: &mut [u8], cur: Currency) -> Outcome
-    ensures { delete_on table.now file.old cur ≡ (result, file.new) }
+pub fn delete(table: &[u16], file: &mut [u8], cur: Currency) -> Result<Outcome, Refusal>
+    ensures { delete_on table.now file.old cur ≡ (outcome_of result cur, file.new) }
 {
     if cur.run == 0 {
-        return Outcome::refused(Answer::NO_CURRENT, cur);
+        return Err(Refusal::NoCurrent);
     }
     let mut marks = [0u8; marks::MARKS];
-    delete_from(table, file, &mut marks, cur)
+    Ok(delete_from(table, file, &mut marks, cur))
 }

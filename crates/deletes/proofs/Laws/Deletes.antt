@@ -34,9 +34,9 @@ carried_out t f k cur r k1 g ed eg = rw (ed, eg)
 
 -- delete
 module _ (t f : List ℕ) (cur : Currency) where
-  pub delete_none : (r : Outcome) → cur.run ≡ 0 → r ≡ refusal 6 cur → delete_on t f cur ≡ (r, f)
+  pub delete_none : cur.run ≡ 0 → delete_on t f cur ≡ (refusal 6 cur, f)
   unfolding delete_on
-  delete_none r h e = rw (eq-eqb cur.run 0 h, e)
+  delete_none h = rw (eq-eqb cur.run 0 h)
 
   pub delete_some : (r : Outcome) (g : List ℕ) → (cur.run ≡ 0 → ⊥) → deleted_from t f (replicate marks_size 0) cur ≡ (r, g) → delete_on t f cur ≡ (r, g)
   unfolding delete_on
