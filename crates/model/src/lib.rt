@@ -48,7 +48,7 @@ pub struct Places {
     pub after: [u32; 16],
 }
 
-// A detail below a record, and the chain in which it was met; code 0 where there is none.
+// A detail below a record, and the chain in which it was met.
 #[derive(Clone, Copy)]
 pub struct Below {
     pub chain: u16,
