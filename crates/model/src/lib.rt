@@ -57,7 +57,7 @@ pub struct Found {
     pub place: u16,
 }
 
-// A detail below a record, and the chain in which it was met; code 0 where there is none.
+// A detail below a record, and the chain in which it was met.
 #[derive(Clone, Copy)]
 pub struct Below {
     pub chain: u16,
