@@ -1,72 +1,25 @@
--- Lent memory: words past the end, sixteen words copied out, and the ways out of the call.
-use Prim.Native.Nat.{ℕ, ◌-◌, ◌<◌, ◌≤◌}
-use mathlib.Core.Path.{◌≡◌, refl, sym, ◌∙◌}
-use mathlib.Core.Bool.{Bool, true, false, not}
-use mathlib.Core.List.{List, [], ◌∷◌}
-use lib.ListN.{length, get_or, take, drop, replicate, length-drop, get_or-eq_default, drop_of_length-le}
-use lib.Seq.{take_all}
-use native.Mathlib.Omega.{arith}
-use borrow.Author.Tests.{eq-eqb, ne_eqb, lt-ltb, le-ltb, not-true, not-false}
-use Rattle.ledger.specs.declared.Outcome.{Outcome}
-use Rattle.ledger.specs.declared.Currency.{Currency}
-use Rattle.ledger.specs.Player.{call_made}
+-- Words put as far as there is room.
+use Rattle.std.proofs.Common.{◌≡◌, ℕ, zero, suc, ◌+◌, ◌-◌, ◌<◌, ◌≤◌, List, [], ◌∷◌, length, set, take, ltb, refl, sym, ap, ◌∙◌, arith, length-set, append_assoc, take_all, ltb-true, ltb-false, drop-drop}
+use Rattle.std.proofs.lemmas.List.Edits.{sets, sets-eq}
+use borrow.Rule.Slice.PartMut.{put_mid}
+use lib.ListN.{length-take}
+use Rattle.ledger.proofs.Lists.Tests.{by_cases}
+use Rattle.change.proofs.Laws.Copies.{part_put_past}
 use Rattle.model.specs.Moves.{part_put}
-use Rattle.play_model.specs.Plays.{play_on}
-use Rattle.gerunjap_model.specs.Lent.{sixteen_of, currency_of, currency_put, answer_put8, answered, call_on}
 
--- code_at
-pub code_past : (words : List ℕ) (i : ℕ) → length words ≤ i → 0 ≡ get_or words i 0
-code_past words i h = sym (get_or-eq_default words 0 h)
+-- what has no room is not written
+part_put-cut : (m : ℕ) (f : List ℕ) (at : ℕ) (d : List ℕ) → length f - at ≡ m → part_put f at d ≡ part_put f at (take m d)
+unfolding part_put
+part_put-cut zero f at d e = part_put_past f at d (omega arith)
+part_put-cut (suc m) f at [] e = refl
+part_put-cut (suc m) f at (b ∷ d) e = part_put-cut m (set f at b) (suc at) d (simp length-set (omega arith))
 
--- sixteen_at
-pub sixteen_none : (words : List ℕ) (at : ℕ) → length words ≤ at → replicate 16 0 ≡ sixteen_of words at
-unfolding sixteen_of part_put
-sixteen_none words at h = rw (drop_of_length-le words h)
-
-pub sixteen_some : (words : List ℕ) (at : ℕ) (g : List ℕ) → part_put (replicate 16 0) 0 (take (length words - at) (drop at words)) ≡ g
-    → g ≡ sixteen_of words at
-unfolding sixteen_of
-sixteen_some words at g e = sym (rw (take_all (length words - at) (drop at words) (rw (length-drop at words) (omega arith))) at e)
-
--- currency_of
-pub currency_is : (words : List ℕ) (x : ℕ) (ts cs : List ℕ) → x ≡ get_or words 0 0 → ts ≡ sixteen_of words 1 → cs ≡ sixteen_of words 17
-    → ◌≡◌ {A = Currency} (record { run = x; types = ts; chains = cs }) (currency_of words)
-unfolding currency_of
-currency_is words x ts cs ex et ec = rw (ex, et, ec)
-
--- put_currency
-put_run : (words : List ℕ) (cur : Currency) → currency_put words cur ≡ part_put (part_put (part_put words 0 (cur.run ∷ [])) 1 cur.types) 17 cur.chains
-unfolding currency_put part_put
-put_run words cur = refl
-
-pub currency_put_lem : (words : List ℕ) (cur : Currency) (a b c : List ℕ) → part_put words 0 (cur.run ∷ []) ≡ a → part_put a 1 cur.types ≡ b
-    → part_put b 17 cur.chains ≡ c → currency_put words cur ≡ c
-currency_put_lem words cur a b c ea eb ec = put_run words cur ∙ rw (ea, eb, ec)
-
--- gerunjap_call
-module _ (t f words fr out answer : List ℕ) where
-  pub call_words : (length words ≡ 33 → ⊥) → call_on t f words fr out answer ≡ (2, f, words, out, answer)
-  unfolding call_on
-  call_words n = rw (ne_eqb (length words) 33 n)
-
-  module _ (w : length words ≡ 33) where
-    pub call_room : length answer < 8 → call_on t f words fr out answer ≡ (2, f, words, out, answer)
-    unfolding call_on
-    call_room h = rw (eq-eqb (length words) 33 w, lt-ltb (length answer) 8 h)
-
-    module _ (h : 8 ≤ length answer) (m : Bool) (em : m ≡ call_made fr) where
-      pub call_ill : not m ≡ true → call_on t f words fr out answer ≡ (1, f, words, out, answer)
-      unfolding call_on
-      call_ill n = rw (eq-eqb (length words) 33 w, le-ltb (length answer) 8 h, ← em, not-true m n)
-
-      pub call_done : (r : ℕ) (f₂ out₂ words₂ answer₂ : List ℕ) → not m ≡ false
-          → answered words answer (play_on t f (currency_of words) fr out) ≡ (r, f₂, words₂, out₂, answer₂)
-          → call_on t f words fr out answer ≡ (r, f₂, words₂, out₂, answer₂)
-      unfolding call_on
-      call_done r f₂ out₂ words₂ answer₂ n e = rw (eq-eqb (length words) 33 w, le-ltb (length answer) 8 h, ← em, not-false m n) e
-
--- answer_frame
-pub frame_answered : (t f fr out words answer : List ℕ) (cur : Currency) (r : Outcome) (f₂ out₂ words₂ answer₂ : List ℕ) → cur ≡ currency_of words
-    → play_on t f cur fr out ≡ (r, f₂, out₂) → currency_put words r.currency ≡ words₂ → answer_put8 answer r.answer ≡ answer₂
-    → answered words answer (play_on t f (currency_of words) fr out) ≡ (0, f₂, words₂, out₂, answer₂)
-frame_answered t f fr out words answer cur r f₂ out₂ words₂ answer₂ ec ep ew ea = rw (← ec, ep, ew, ea)
+pub part_put-mid : (f d ys : List ℕ) (at n k : ℕ) → n ≤ length d → at + n ≤ length f → (n < length d → at + n ≡ length f) → k ≡ n → ys ≡ take n d → part_put f at d ≡ put_mid at k f ys
+unfolding part_put
+part_put-mid f d ys at n k small within cut ek ey =
+    let fits : sets f at d ≡ sets f at (take n d) = by_cases (ltb n (length d))
+    (λ e. part_put-cut n f at d (let l = cut (ltb-true n (length d) e) in omega arith))
+    (λ e. ap (λ t. sets f at t) (sym (take_all n d (ltb-false n (length d) e)))) in
+    let long : length (take n d) ≡ n = simp length-take (omega arith) in
+    let there = sets-eq (take n d) f at (omega arith) in
+    rw (ek, ey) (fits ∙ there ∙ rw (long, append_assoc, drop-drop) refl)
