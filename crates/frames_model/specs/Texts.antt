@@ -1,8 +1,9 @@
 -- Hexadecimal text: a line's bytes put into a frame, and an answer put into an output; nothing is put where there is no place for it.
-use Rattle.std.specs.Prelude.{ℕ, ◌+◌, ◌*◌, ◌/◌, ◌%◌, Option, None, Some, cond, List, [], ◌∷◌, length, set, eqb, ltb, leb}
+use Rattle.std.specs.Prelude.{ℕ, ◌+◌, ◌*◌, ◌/◌, ◌%◌, Option, None, Some, cond, List, [], ◌∷◌, ◌++◌, length, take, set, eqb, leb}
 use Rattle.std.proofs.lemmas.List.Edits.{sets}
 use Rattle.ledger.specs.declared.Answer.{Answer}
-use Rattle.ledger.specs.Player.{digit_value, digit_of}
+use Rattle.ledger.specs.Numbers.{digits}
+use Rattle.ledger.specs.Player.{digit_value, digit_of, hex_of}
 use Rattle.frames_model.specs.declared.Reading.{Reading}
 
 -- where the reading of a line starts
@@ -49,21 +50,13 @@ decode_on line frame = decode_from line frame unread
 unfoldable pub hex_put : List ℕ → ℕ → ℕ → List ℕ
 hex_put out at b = set (set out at (digit_of (b / 16))) (at + 1) (digit_of (b % 16))
 
--- a number's four digits
-unfoldable pub four_put : List ℕ → ℕ → ℕ → List ℕ
-four_put out at v = hex_put (hex_put out at (v / 256 % 256)) (at + 2) (v % 256)
+-- an answer's four numbers as bytes: code 1, reference code 3, type 2, count 2
+unfoldable pub head_of : Answer → List ℕ
+head_of a = a.code ∷ (digits 3 a.reference ++ digits 2 a.kind ++ digits 2 a.count)
 
--- an answer's four numbers
-unfoldable pub answer_put : List ℕ → Answer → List ℕ
-answer_put out a =
-    let c = hex_put out 0 a.code in
-    let r = hex_put (hex_put (hex_put c 2 (a.reference / 256 / 256 % 256)) 4 (a.reference / 256 % 256)) 6 (a.reference % 256) in
-    four_put (four_put r 8 a.kind) 12 a.count
-
--- data from `at` on, up to place 416: where they end, and the output
-unfoldable pub data_put : List ℕ → ℕ → List ℕ → ℕ × List ℕ
-data_put out at [] = (at, out)
-data_put out at (b ∷ bs) = cond (ltb 414 at) (at, out) (data_put (hex_put out at b) (at + 2) bs)
+-- up to 200 bytes in hexadecimal from `at` on: where they end, and the output
+unfoldable pub bytes_put : List ℕ → ℕ → List ℕ → ℕ × List ℕ
+bytes_put out at bs = (at + 2 * length (take 200 bs), sets out at (hex_of (take 200 bs)))
 
 -- a text at the front of an output, with its length
 unfoldable pub text_put : List ℕ → List ℕ → ℕ × List ℕ
