@@ -2,6 +2,7 @@
 ghost use Rattle.std.specs.Prelude.{◌≡◌, drop};
 ghost use Rattle.ledger.specs.Player.{fewest, is_open, right_count, call_made};
 
+// By number and no method of a kind of call: `right_count` takes any number, also one that no call has.
 // How many argument bytes each call from 00 to 0D takes at the least.
 const FEWEST: [u8; 14] = [0, 2, 3, 2, 1, 1, 1, 6, 0, 0, 0, 2, 1, 4];
 

@@ -1,4 +1,5 @@
 // A frame played, and a line: one line of text in, one line out.
+// Table, file, frame and output are parameters and no struct: each step lends its own part of each, and struct fields would say the same in longer clauses.
 ghost use Rattle.std.specs.Prelude.{◌≡◌, ◌≤◌, length};
 ghost use Rattle.ledger.specs.Player.{well_made};
 ghost use Rattle.play_laws.specs.Buffers.{Stands, LinePlays};

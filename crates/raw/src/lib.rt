@@ -11,7 +11,7 @@ use ledger::{Answer, Currency, Outcome};
 use looks::calls;
 use store::{changes, checks};
 
-// The currency has not 33 words.
+// The currency has not 33 words. A number and no enum, as all that gerunjap_check answers: C takes it as it is.
 pub const BAD_CURRENCY: u8 = 255;
 
 // Makes a call.
