@@ -1,6 +1,6 @@
 // The audit: the first fault of a file, phase by phase, and where it is.
 ghost use Rattle.std.specs.Prelude.{◌≡◌};
-ghost use Rattle.audit_model.specs.Faults.{ring_place, order_place, audit_on, fault_number};
+ghost use Rattle.audit_model.specs.Faults.{ring_place, order_place, audit_on};
 
 use model::Fault;
 use orders::order;
@@ -8,6 +8,7 @@ use scan::pages;
 use sweeps::{calcs, chains};
 
 // The place of the first ring fault: CALC, then each chain.
+#[tactic(auto, unfolding(audit_model::specs::Faults::ring_place, audit_model::specs::Faults::first_place))]
 fn ring_place(table: &[u16], file: &[u8]) -> u32
     ensures { result ≡ ring_place table.now file.now }
 {
@@ -19,6 +20,7 @@ fn ring_place(table: &[u16], file: &[u8]) -> u32
 }
 
 // The place of the first fault of duplicates and order, in the same sequence.
+#[tactic(auto, unfolding(audit_model::specs::Faults::order_place, audit_model::specs::Faults::first_place))]
 fn order_place(table: &[u16], file: &[u8]) -> u32
     ensures { result ≡ order_place table.now file.now }
 {
@@ -29,32 +31,22 @@ fn order_place(table: &[u16], file: &[u8]) -> u32
     twin
 }
 
-pub fn audit(table: &[u16], file: &[u8]) -> Fault
+// The first fault of a file: a page, then a ring, then the order.
+#[tactic(auto, unfolding(audit_model::specs::Faults::audit_on))]
+pub fn audit(table: &[u16], file: &[u8]) -> Result<(), Fault>
     ensures { result ≡ audit_on table.now file.now }
 {
     let page = pages::faulty_page(table, file);
     if page != 0 {
-        return Fault::Page(page);
+        return Err(Fault::Page(page));
     }
     let ring = ring_place(table, file);
     if ring != 0 {
-        return Fault::Ring(ring);
+        return Err(Fault::Ring(ring));
     }
     let order = order_place(table, file);
     if order != 0 {
-        return Fault::Order(order);
+        return Err(Fault::Order(order));
     }
-    Fault::Nowhere
-}
-
-// The refusal of a fault: 3 for each, 0 for none.
-pub fn refusal(fault: Fault) -> u8
-    ensures { result ≡ fault_number fault }
-{
-    match fault {
-        Fault::Nowhere => 0,
-        Fault::Page(_) => 3,
-        Fault::Ring(_) => 3,
-        Fault::Order(_) => 3,
-    }
+    Ok(())
 }

@@ -7,7 +7,8 @@ use mathlib.Core.List.{List, [], ◌∷◌, ◌++◌, append_assoc}
 use native.Mathlib.Omega.{arith}
 use native.Mathlib.Numerals.{add-one}
 use lib.ListN.{length}
-use borrow.Author.Tests.{eq-eqb, ne_eqb, le-leb, lt-leb}
+use Rattle.std.proofs.Common.{Option, Some, None}
+use borrow.Author.Tests.{ne_eqb, le-leb, lt-leb}
 use Rattle.ledger.specs.Numbers.{elem, run, concat_of, head_or}
 use Rattle.ledger.specs.Table.{chains, is_master, in_chain, Accepted}
 use Rattle.ledger.specs.Pages.{Ledger, kind_at, Sound}
@@ -35,17 +36,17 @@ mark_all rec count k [] = (count, k)
 mark_all rec count k (y ∷ ys) = mark_all rec ((count + (rec y k).0) % 2 ^ 16) (rec y k).1 ys
 
 -- from b on, the details that are gone through are ds
-pub data Listed (t f : List ℕ) (c n : ℕ) : Below → List ℕ → Type 0 where
-  none : (b : Below) → b.code ≡ 0 → Listed t f c n b []
-  some : (b : Below) (ds : List ℕ) → b.code ≢ 0 → Listed t f c n (next_below_in t f c n b) ds → Listed t f c n b (b.code ∷ ds)
+pub data Listed (t f : List ℕ) (c n : ℕ) : Option Below → List ℕ → Type 0 where
+  none : Listed t f c n None []
+  some : (b : Below) (ds : List ℕ) → Listed t f c n (next_below_in t f c n b) ds → Listed t f c n (Some b) (b.code ∷ ds)
 
-pub mark_all_lem : (rec : ℕ → List ℕ → Marked) (t f : List ℕ) (c n count : ℕ) (b : Below) (ds k : List ℕ) (left : ℕ)
-    → Listed t f c n b ds → length ds < left → mark_from rec t f c n count b k left ≡ mark_all rec count k ds
+pub mark_all_lem : (rec : ℕ → List ℕ → Marked) (t f : List ℕ) (c n count : ℕ) (at : Option Below) (ds k : List ℕ) (left : ℕ)
+    → Listed t f c n at ds → length ds < left → mark_from rec t f c n count at k left ≡ mark_all rec count k ds
 unfolding mark_from mark_all
-mark_all_lem rec t f c n count b ds k zero p h = absurd (omega arith)
-mark_all_lem rec t f c n count b _ k (suc left) (none _ e) h = rw (eq-eqb b.code 0 e)
-mark_all_lem rec t f c n count b _ k (suc left) (some _ ds e p) h =
-    rw (ne_eqb b.code 0 e) (mark_all_lem rec t f c n ((count + (rec b.code k).0) % 2 ^ 16) (next_below_in t f c n b) ds _ left p (omega arith))
+mark_all_lem rec t f c n count at ds k zero p h = absurd (omega arith)
+mark_all_lem rec t f c n count _ _ k (suc left) none h = refl
+mark_all_lem rec t f c n count _ _ k (suc left) (some b ds p) h =
+    mark_all_lem rec t f c n ((count + (rec b.code k).0) % 2 ^ 16) (next_below_in t f c n b) ds _ left p (omega arith)
 
 module _ (t f : List ℕ) (l : Ledger) (a : Accepted t) (s : Sound t f l) (c : ℕ) where
   abbrev kind : ℕ
@@ -69,32 +70,31 @@ module _ (t f : List ℕ) (l : Ledger) (a : Accepted t) (s : Sound t f l) (c : �
 
   -- round a ring from y on, then through the later chains
   ring_listed : (j y : ℕ) (ys zs ds : List ℕ) → l.ring j c ≡ ys ++ y ∷ zs → Listed t f c kind (first_below_in t f c kind (j + 1)) ds
-      → Listed t f c kind (record { chain = j; code = y }) (y ∷ (zs ++ ds))
+      → Listed t f c kind (Some (record { chain = j; code = y })) (y ∷ (zs ++ ds))
   unfolding next_below_in head_or
   ring_listed j y ys [] ds e p =
       let i : elem y (l.ring j c) ≡ true = rw e (elem_put y ys []) in
       let few : j < 16 = omega (arith, a.chain_count, (s.formed.ring_own j c y i).0) in
-      some (record { chain = j; code = y }) ds (member_apart j y i).1 (rw (next_member j y ys [] e, eqb_same c, lt-leb 16 j few) p)
+      some (record { chain = j; code = y }) ds (rw (next_member j y ys [] e, eqb_same c, lt-leb 16 j few) p)
   ring_listed j y ys (z ∷ zs) ds e p =
       let g : l.ring j c ≡ (ys ++ (y ∷ [])) ++ z ∷ zs = rw append_assoc e in
-      let i : elem y (l.ring j c) ≡ true = rw e (elem_put y ys (z ∷ zs)) in
-      let n : z ≢ c = (member_apart j z (rw g (elem_put z (ys ++ (y ∷ [])) zs))).0 in
-      some (record { chain = j; code = y }) (z ∷ (zs ++ ds)) (member_apart j y i).1
-      (rw (next_member j y ys (z ∷ zs) e, ne_eqb z c n) (ring_listed j z (ys ++ (y ∷ [])) zs ds g p))
+      let n : (z ≢ c) × (z ≢ 0) = member_apart j z (rw g (elem_put z (ys ++ (y ∷ [])) zs)) in
+      some (record { chain = j; code = y }) (z ∷ (zs ++ ds))
+      (rw (next_member j y ys (z ∷ zs) e, ne_eqb z c n.0, ne_eqb z 0 n.1) (ring_listed j z (ys ++ (y ∷ [])) zs ds g p))
 
   -- the first detail in chain j
-  first_none : (j : ℕ) → j < chains t → l.ring j c ≡ [] → first_in t f c kind j ≡ 0
+  first_none : (j : ℕ) → j < chains t → l.ring j c ≡ [] → first_in t f c kind j ≡ None
   unfolding first_in head_or
   first_none j lt e = by_cases (is_master t j kind)
       (λ h. rw (h, next_first j lt h, e, eqb_same c))
       (λ h. rw h)
 
-  first_some : (j y : ℕ) (ys : List ℕ) → l.ring j c ≡ y ∷ ys → first_in t f c kind j ≡ y
+  first_some : (j y : ℕ) (ys : List ℕ) → l.ring j c ≡ y ∷ ys → first_in t f c kind j ≡ Some y
   unfolding first_in head_or
   first_some j y ys e =
       let i : elem y (l.ring j c) ≡ true = rw e (elem_here y ys) in
       let o = s.formed.ring_own j c y i in
-      rw (o.2, next_first j o.0 o.2, e, ne_eqb y c (member_apart j y i).0)
+      rw (o.2, next_first j o.0 o.2, e, ne_eqb y c (member_apart j y i).0, ne_eqb y 0 (member_apart j y i).1)
 
   -- chain j, then the later chains, which are gone through with any number of turns that is enough
   chain_listed : (m j left : ℕ) (ds ys : List ℕ) → j < chains t → m ≤ left → m ≤ 16
@@ -103,13 +103,12 @@ module _ (t f : List ℕ) (l : Ledger) (a : Accepted t) (s : Sound t f l) (c : �
   unfolding first_from first_below_in
   chain_listed m j left ds [] lt h few rest e = rw (lt-leb (chains t) j lt, first_none j lt e) (rest left h)
   chain_listed m j left ds (y ∷ ys) lt h few rest e =
-      let n : y ≢ 0 = (member_apart j y (rw e (elem_here y ys))).1 in
-      rw (lt-leb (chains t) j lt, first_some j y ys e, ne_eqb y 0 n) (ring_listed j y [] ys ds e (rest 16 few))
+      rw (lt-leb (chains t) j lt, first_some j y ys e) (ring_listed j y [] ys ds e (rest 16 few))
 
   chains_listed : (m j left : ℕ) → j + m ≡ chains t → m ≤ left → Listed t f c kind (first_from t f c kind j left) (rings_from l c j m)
   unfolding first_from rings_from concat_of run
-  chains_listed zero j zero e h = none _ refl
-  chains_listed zero j (suc left) e h = rw (le-leb (chains t) j (omega arith)) (none _ refl)
+  chains_listed zero j zero e h = none
+  chains_listed zero j (suc left) e h = rw (le-leb (chains t) j (omega arith)) none
   chains_listed (suc m) j zero e h = absurd (omega arith)
   chains_listed (suc m) j (suc left) e h =
       let few = a.chain_count in

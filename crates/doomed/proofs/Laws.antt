@@ -1,3 +1,4 @@
--- The laws behind marks and entries: one for each way out and each turn of a loop.
+-- The laws behind a deletion's set: one for each way out and each turn of a loop.
 pub mod Marks
 pub mod Entries
+pub mod Arrays

@@ -1,4 +1,6 @@
 // The set that goes: a byte of marks for each code, 0 where its record stays.
+// Marks are bytes that are lent and no struct of an array: `mark_below`, `currency_after` and `act` promise their answers on any number of bytes,
+// and an array would ask for its own length.
 ghost use Rattle.std.specs.Prelude.{◌≡◌};
 ghost use Rattle.delete_model.specs.Marks.{goes_in, first_in, first_below_in, next_below_in, marked_on};
 
@@ -22,50 +24,49 @@ pub fn goes(marks: &[u8], code: u32) -> bool
     bytes::byte_at(marks, code as usize) != 0
 }
 
-// The first detail of `code` in chain `j`, or 0.
-fn first_in(table: &[u16], file: &[u8], code: u32, kind: u16, j: u16) -> u32
+// The first detail of `code` in chain `j`. A NEXT of 0 leads to no record.
+fn first_in(table: &[u16], file: &[u8], code: u32, kind: u16, j: u16) -> Option<u32>
     ensures { result ≡ first_in table.now file.now code kind j }
 {
     if !words::is_master(table, j, kind) {
-        return 0;
+        return None;
     }
     let next = fields::next_at(table, file, j, code);
-    if next == code { 0 } else { next }
+    if next == code || next == 0 {
+        return None;
+    }
+    Some(next)
 }
 
-// The first detail of `code` in the chains from `j` on where it is master; code 0 where there is none.
-fn first_below(table: &[u16], file: &[u8], code: u32, kind: u16, j: u16) -> Below
+// The first detail of `code` in the chains from `j` on where it is master.
+fn first_below(table: &[u16], file: &[u8], code: u32, kind: u16, j: u16) -> Option<Below>
     ensures { result ≡ first_below_in table.now file.now code kind j }
 {
-    let mut chain = j;
-    let mut left = CHAINS;
-    while 0 < left {
-        if words::word(table, words::CHAINS) <= chain {
-            return Below { chain: 0, code: 0 };
+    let end = words::word(table, words::CHAINS).min(j.saturating_add(CHAINS));
+    for chain in j..end {
+        if let Some(first) = first_in(table, file, code, kind, chain) {
+            return Some(Below { chain, code: first });
         }
-        let first = first_in(table, file, code, kind, chain);
-        if first != 0 {
-            return Below { chain, code: first };
-        }
-        chain += 1;
-        left -= 1;
     }
-    Below { chain: 0, code: 0 }
+    None
 }
 
 // The detail of `code` after another, in its chain or the next that has one.
-fn next_below(table: &[u16], file: &[u8], code: u32, kind: u16, at: Below) -> Below
+fn next_below(table: &[u16], file: &[u8], code: u32, kind: u16, at: Below) -> Option<Below>
     ensures { result ≡ next_below_in table.now file.now code kind at }
 {
     let chain = at.chain;
     let next = fields::next_at(table, file, chain, at.code);
-    if next != code {
-        return Below { chain, code: next };
+    if next == code {
+        if CHAINS <= chain {
+            return None;
+        }
+        return first_below(table, file, code, kind, chain + 1);
     }
-    if CHAINS <= chain {
-        return Below { chain: 0, code: 0 };
+    if next == 0 {
+        return None;
     }
-    first_below(table, file, code, kind, chain + 1)
+    Some(Below { chain, code: next })
 }
 
 // Marks a record and all below it that are not yet marked, calling itself on each detail; how many it marked.
@@ -81,16 +82,14 @@ pub fn mark_below(table: &[u16], file: &[u8], marks: &mut [u8], level: u16, code
         return 1;
     }
     let kind = fields::kind_at(file, code);
-    let mut n: u16 = 1;
-    let mut at = first_below(table, file, code, kind, 0);
-    let mut left = DETAILS;
-    while 0 < left {
-        if at.code == 0 {
-            return n;
-        }
-        n = std::num::wrapping_add_u16(n, mark_below(table, file, marks, level - 1, at.code));
-        at = next_below(table, file, code, kind, at);
-        left -= 1;
+    let mut count: u16 = 1;
+    let mut below = first_below(table, file, code, kind, 0);
+    for turn in 0..DETAILS {
+        let Some(at) = below else {
+            return count;
+        };
+        count = count.wrapping_add(mark_below(table, file, marks, level - 1, at.code));
+        below = next_below(table, file, code, kind, at);
     }
-    n
+    count
 }

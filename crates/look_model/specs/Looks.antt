@@ -1,7 +1,9 @@
 -- The calls that read, on any bytes `f`, with the refusals of Calls in their order.
-use Rattle.std.specs.Prelude.{ℕ, Bool, cond, not, ◌&&◌, List, length, eqb, ltb, leb}
+use Rattle.std.specs.Prelude.{ℕ, Bool, cond, not, ◌&&◌, List, length, eqb, ltb, leb, Result, Ok, Err}
 use Rattle.ledger.specs.declared.Currency.{Currency}
 use Rattle.ledger.specs.declared.Outcome.{Outcome}
+use Rattle.ledger.specs.declared.Refusal.{Refusal}
+use Rattle.ledger.specs.declared.Refusal.TheVariants.{Unknown, NoCurrent}
 use Rattle.ledger.specs.Numbers.{run, first_of}
 use Rattle.ledger.specs.Table.{row, data_len, key_len, sort_len, order, defined, calculated}
 use Rattle.ledger.specs.Pages.{home}
@@ -40,10 +42,11 @@ current_on t f cur n =
     cond (not (defined t n)) (refusal 5 cur)
     (cond (eqb (type_current t cur n) 0) (refusal 6 cur) (reached_on t f cur (type_current t cur n)))
 
--- a call on a chain: refusals 5 and 6 of it, else what is to be done
-unfoldable pub chain_refusal : List ℕ → Currency → ℕ → ℕ
-chain_refusal t cur j = cond (no_chain t j) 5 (cond (eqb (chain_current cur j) 0) 6 0)
+-- a call on a chain: refusals 5 and 6 of it, else the chain's current record
+unfoldable pub chain_start : List ℕ → Currency → ℕ → Result ℕ Refusal
+chain_start t cur j = cond (no_chain t j) (Err Unknown) (cond (eqb (chain_current cur j) 0) (Err NoCurrent) (Ok (chain_current cur j)))
 
+-- the same with what is to be done
 abbrev pub on_chain : List ℕ → Currency → ℕ → Outcome → Outcome
 on_chain t cur j o = cond (no_chain t j) (refusal 5 cur) (cond (eqb (chain_current cur j) 0) (refusal 6 cur) o)
 

@@ -1,26 +1,35 @@
 // The calls that read, once refusals 1 to 4 are behind them.
 ghost use Rattle.std.specs.Prelude.{◌≡◌};
-ghost use Rattle.look_model.specs.Looks.{direct_on, reached_on, found_on, key_on, current_on, chain_refusal, find_on, next_on, prior_on, master_on, there_in, first_in, each_on, read_on};
+ghost use Rattle.ledger.specs.Numbers.{or_none};
+ghost use Rattle.ledger.specs.Answers.{outcome_of};
+ghost use Rattle.look_model.specs.Looks.{direct_on, reached_on, found_on, key_on, current_on, chain_start, find_on, next_on, prior_on, master_on, there_in, first_in, each_on, read_on};
 
 use crate::currency;
 use change::copies;
-use ledger::{Answer, Currency, Outcome};
+use ledger::{Answer, Currency, Outcome, Refusal};
 use model::Found;
 use page::fields;
 use table::{keys, words};
 
+// Codes of records: 64 to a page, from page 1 on, and the first past them.
+const FIRST_CODE: u32 = 64;
+
+const END_OF_CODES: u32 = FIRST_CODE + rings::FUEL as u32;
+
 // DIRECT
-pub fn direct(table: &[u16], file: &[u8], cur: Currency, code: u32) -> Outcome
-    ensures { result ≡ direct_on table.now file.now cur code }
+#[tactic(auto, unfolding(look_model::specs::Looks::direct_on))]
+pub fn direct(table: &[u16], file: &[u8], cur: Currency, code: u32) -> Result<Outcome, Refusal>
+    ensures { outcome_of result cur ≡ direct_on table.now file.now cur code }
 {
     let kind = fields::kind_at(file, code);
     if kind == 0 {
-        return Outcome::refused(Answer::NO_RECORD, cur);
+        return Err(Refusal::NoRecord);
     }
-    currency::arrive_at(table, cur, kind, code, 0)
+    Ok(currency::arrive_at(table, cur, kind, code, 0))
 }
 
 // Arrives at a record that is known to be there.
+#[tactic(auto, unfolding(look_model::specs::Looks::reached_on))]
 fn reached(table: &[u16], file: &[u8], cur: Currency, code: u32) -> Outcome
     ensures { result ≡ reached_on table.now file.now cur code }
 {
@@ -28,28 +37,36 @@ fn reached(table: &[u16], file: &[u8], cur: Currency, code: u32) -> Outcome
 }
 
 // What KEY and FIND answer of what they found.
-fn found(table: &[u16], file: &[u8], cur: Currency, f: Found) -> Outcome
-    ensures { result ≡ found_on table.now file.now cur f }
+#[tactic(auto, unfolding(look_model::specs::Looks::found_on))]
+fn found(table: &[u16], file: &[u8], cur: Currency, f: Found) -> Result<Outcome, Refusal>
+    ensures { outcome_of result cur ≡ found_on table.now file.now cur f }
 {
     let code = f.code;
     if code == 0 {
-        return Outcome::refused(Answer::NO_RECORD, cur);
+        return Err(Refusal::NoRecord);
     }
-    currency::arrive_at(table, cur, fields::kind_at(file, code), code, f.place)
+    Ok(currency::arrive_at(table, cur, fields::kind_at(file, code), code, f.place))
 }
 
 // KEY
-pub fn key(table: &[u16], file: &[u8], cur: Currency, kind: u16, key: &[u8]) -> Outcome
-    ensures { result ≡ key_on table.now file.now cur kind key.now }
+#[tactic(auto, unfolding(look_model::specs::Looks::key_on))]
+pub fn key(
+    table: &[u16],
+    file: &[u8],
+    cur: Currency,
+    kind: u16,
+    key: &[u8],
+) -> Result<Outcome, Refusal>
+    ensures { outcome_of result cur ≡ key_on table.now file.now cur kind key.now }
 {
     if !words::is_defined(table, kind) {
-        return Outcome::refused(Answer::UNKNOWN, cur);
+        return Err(Refusal::Unknown);
     }
     if !words::is_calculated(table, kind) {
-        return Outcome::refused(Answer::WRONG_KIND, cur);
+        return Err(Refusal::WrongKind);
     }
     if key.len() != words::kind_word(table, kind, words::KEY_LENGTH) as usize {
-        return Outcome::refused(Answer::BAD_LENGTH, cur);
+        return Err(Refusal::BadLength);
     }
     let p = keys::home_page(table, kind, key);
     let first = rings::find_calc(table, file, p, kind, key, 0);
@@ -57,88 +74,86 @@ pub fn key(table: &[u16], file: &[u8], cur: Currency, kind: u16, key: &[u8]) -> 
 }
 
 // CURRENT
-pub fn current(table: &[u16], file: &[u8], cur: Currency, kind: u16) -> Outcome
-    ensures { result ≡ current_on table.now file.now cur kind }
+#[tactic(auto, unfolding(look_model::specs::Looks::current_on))]
+pub fn current(table: &[u16], file: &[u8], cur: Currency, kind: u16) -> Result<Outcome, Refusal>
+    ensures { outcome_of result cur ≡ current_on table.now file.now cur kind }
 {
     if !words::is_defined(table, kind) {
-        return Outcome::refused(Answer::UNKNOWN, cur);
+        return Err(Refusal::Unknown);
     }
     let code = currency::type_current(table, cur, kind);
     if code == 0 {
-        return Outcome::refused(Answer::NO_CURRENT, cur);
+        return Err(Refusal::NoCurrent);
     }
-    reached(table, file, cur, code)
+    Ok(reached(table, file, cur, code))
 }
 
-// Refusals 5 and 6 of a call on a chain, or 0.
-fn chain_refusal(table: &[u16], cur: Currency, j: u16) -> u8
-    ensures { result ≡ chain_refusal table.now cur j }
+// A chain's current record, from which a call on the chain begins; else refusals 5 and 6.
+#[tactic(auto, unfolding(look_model::specs::Looks::chain_start))]
+fn chain_start(table: &[u16], cur: Currency, j: u16) -> Result<u32, Refusal>
+    ensures { result ≡ chain_start table.now cur j }
 {
     if words::word(table, words::CHAINS) <= j {
-        return Answer::UNKNOWN;
+        return Err(Refusal::Unknown);
     }
-    if currency::chain_current(cur, j) == 0 {
-        return Answer::NO_CURRENT;
+    match currency::chain_current(cur, j) {
+        0 => Err(Refusal::NoCurrent),
+        at => Ok(at),
     }
-    0
 }
 
 // FIND
-pub fn find(table: &[u16], file: &[u8], cur: Currency, j: u16, key: &[u8]) -> Outcome
-    ensures { result ≡ find_on table.now file.now cur j key.now }
+#[tactic(auto, unfolding(look_model::specs::Looks::find_on, look_model::specs::Looks::chain_start))]
+pub fn find(
+    table: &[u16],
+    file: &[u8],
+    cur: Currency,
+    j: u16,
+    key: &[u8],
+) -> Result<Outcome, Refusal>
+    ensures { outcome_of result cur ≡ find_on table.now file.now cur j key.now }
 {
-    let refusal = chain_refusal(table, cur, j);
-    if refusal != 0 {
-        return Outcome::refused(refusal, cur);
-    }
+    let at = chain_start(table, cur, j)?;
     if words::chain_word(table, j, words::ORDER) < 2 {
-        return Outcome::refused(Answer::WRONG_KIND, cur);
+        return Err(Refusal::WrongKind);
     }
     if key.len() != words::chain_word(table, j, words::SORT_LENGTH) as usize {
-        return Outcome::refused(Answer::BAD_LENGTH, cur);
+        return Err(Refusal::BadLength);
     }
-    let m = rings::master_of(table, file, j, currency::chain_current(cur, j));
+    let m = rings::master_of(table, file, j, at);
     let first = rings::find_key(table, file, j, m, key);
     found(table, file, cur, first)
 }
 
 // NEXT
-pub fn next(table: &[u16], file: &[u8], cur: Currency, j: u16) -> Outcome
-    ensures { result ≡ next_on table.now file.now cur j }
+#[tactic(auto, unfolding(look_model::specs::Looks::next_on, look_model::specs::Looks::along_on, look_model::specs::Looks::chain_start))]
+pub fn next(table: &[u16], file: &[u8], cur: Currency, j: u16) -> Result<Outcome, Refusal>
+    ensures { outcome_of result cur ≡ next_on table.now file.now cur j }
 {
-    let refusal = chain_refusal(table, cur, j);
-    if refusal != 0 {
-        return Outcome::refused(refusal, cur);
-    }
-    let at = currency::chain_current(cur, j);
-    reached(table, file, cur, fields::next_at(table, file, j, at))
+    let at = chain_start(table, cur, j)?;
+    Ok(reached(table, file, cur, fields::next_at(table, file, j, at)))
 }
 
 // PRIOR
-pub fn prior(table: &[u16], file: &[u8], cur: Currency, j: u16) -> Outcome
-    ensures { result ≡ prior_on table.now file.now cur j }
+#[tactic(auto, unfolding(look_model::specs::Looks::prior_on, look_model::specs::Looks::along_on, look_model::specs::Looks::chain_start))]
+pub fn prior(table: &[u16], file: &[u8], cur: Currency, j: u16) -> Result<Outcome, Refusal>
+    ensures { outcome_of result cur ≡ prior_on table.now file.now cur j }
 {
-    let refusal = chain_refusal(table, cur, j);
-    if refusal != 0 {
-        return Outcome::refused(refusal, cur);
-    }
-    let at = currency::chain_current(cur, j);
-    reached(table, file, cur, rings::prior_of(table, file, j, at))
+    let at = chain_start(table, cur, j)?;
+    Ok(reached(table, file, cur, rings::prior_of(table, file, j, at)))
 }
 
 // MASTER
-pub fn master(table: &[u16], file: &[u8], cur: Currency, j: u16) -> Outcome
-    ensures { result ≡ master_on table.now file.now cur j }
+#[tactic(auto, unfolding(look_model::specs::Looks::master_on, look_model::specs::Looks::along_on, look_model::specs::Looks::chain_start))]
+pub fn master(table: &[u16], file: &[u8], cur: Currency, j: u16) -> Result<Outcome, Refusal>
+    ensures { outcome_of result cur ≡ master_on table.now file.now cur j }
 {
-    let refusal = chain_refusal(table, cur, j);
-    if refusal != 0 {
-        return Outcome::refused(refusal, cur);
-    }
-    let at = currency::chain_current(cur, j);
-    reached(table, file, cur, rings::master_of(table, file, j, at))
+    let at = chain_start(table, cur, j)?;
+    Ok(reached(table, file, cur, rings::master_of(table, file, j, at)))
 }
 
 // Whether a code from `first` to `last` has a record.
+#[tactic(auto, unfolding(look_model::specs::Looks::there_in))]
 fn is_there(file: &[u8], first: u32, last: u32, code: u32) -> bool
     ensures { result ≡ there_in file.now first last code }
 {
@@ -152,41 +167,46 @@ fn is_there(file: &[u8], first: u32, last: u32, code: u32) -> bool
     kind != 0
 }
 
-// The lowest such code, or 0.
-fn first_from(file: &[u8], first: u32, last: u32) -> u32
-    ensures { result ≡ first_in file.now first last }
+// The lowest such code.
+fn first_from(file: &[u8], first: u32, last: u32) -> Option<u32>
+    ensures { result ≡ or_none (first_in file.now first last) }
 {
-    let mut code: u32 = 64;
-    let mut left = rings::FUEL;
-    while 0 < left {
-        if is_there(file, first, last, code) {
-            return code;
-        }
-        code += 1;
-        left -= 1;
-    }
-    0
+    (FIRST_CODE..END_OF_CODES).find(|&code| is_there(file, first, last, code))
 }
 
 // EACH
-pub fn each(table: &[u16], file: &[u8], cur: Currency, first: u32, last: u32) -> Outcome
-    ensures { result ≡ each_on table.now file.now cur first last }
+#[tactic(auto, using(crate::proofs::Laws::Calls::kind_none), unfolding(look_model::specs::Looks::each_on, look_model::specs::Looks::direct_on, ledger::specs::Numbers::or_none))]
+pub fn each(
+    table: &[u16],
+    file: &[u8],
+    cur: Currency,
+    first: u32,
+    last: u32,
+) -> Result<Outcome, Refusal>
+    ensures { outcome_of result cur ≡ each_on table.now file.now cur first last }
 {
-    direct(table, file, cur, first_from(file, first, last))
+    let code = first_from(file, first, last).ok_or(Refusal::NoRecord)?;
+    direct(table, file, cur, code)
 }
 
 // READ
-pub fn read(table: &[u16], file: &[u8], cur: Currency, output: &mut [u8]) -> Outcome
-    ensures { read_on table.now file.now cur output.old ≡ (result, output.new) }
+#[tactic(auto, unfolding(look_model::specs::Looks::read_on))]
+pub fn read(
+    table: &[u16],
+    file: &[u8],
+    cur: Currency,
+    output: &mut [u8],
+) -> Result<Outcome, Refusal>
+    ensures { read_on table.now file.now cur output.old ≡ (outcome_of result cur, output.new) }
 {
     let run = cur.run;
     if run == 0 {
-        return Outcome::refused(Answer::NO_CURRENT, cur);
+        return Err(Refusal::NoCurrent);
     }
     let kind = fields::kind_at(file, run);
     if output.len() < words::kind_word(table, kind, words::DATA_LENGTH) as usize {
-        return Outcome::refused(Answer::SHORT_OUTPUT, cur);
+        return Err(Refusal::ShortOutput);
     }
     copies::put_part(output, 0, fields::data_of(table, file, run));
-    Outcome::done(Answer::done(run, kind, 0), cur)
+    Ok(Outcome::done(Answer::done(run, kind, 0), cur))
 }

@@ -1,5 +1,10 @@
-// What each function computes on bytes: definitions and their laws, and the values that they name. No code.
+// What each function computes on bytes: definitions and their laws, and the values that they name. No code but a fault's refusal.
 #![tactic(auto)]
+
+ghost use Rattle.std.specs.Prelude.{◌≡◌};
+ghost use Rattle.ledger.specs.declared.Refusal.TheVariants.{Damaged};
+
+use ledger::Refusal;
 
 // A free line of a page, and where its record would start; line 0 where all are used.
 #[derive(Clone, Copy)]
@@ -18,13 +23,21 @@ pub struct Ends {
     pub linked: bool,
 }
 
-// Where a file is damaged: nowhere; a page; the header or record of a ring fault; the record of an order fault.
-#[derive(Clone, Copy)]
+// Where a file is damaged: a page; the header or record of a ring fault; the record of an order fault.
+#[derive(Clone, Copy, Debug, PartialEq, Eq)]
 pub enum Fault {
-    Nowhere,
     Page(u16),
     Ring(u32),
     Order(u32),
+}
+
+// A file with a fault is not sound, wherever the fault is.
+impl From<Fault> for Refusal {
+    ghost from_gives = { λ _ e. e ≡ Damaged };
+
+    fn from(_fault: Fault) -> Self {
+        Refusal::Damaged
+    }
 }
 
 // Two neighbours of a ring.
@@ -48,7 +61,7 @@ pub struct Places {
     pub after: [u32; 16],
 }
 
-// A detail below a record, and the chain in which it was met; code 0 where there is none.
+// A detail below a record, and the chain in which it was met.
 #[derive(Clone, Copy)]
 pub struct Below {
     pub chain: u16,

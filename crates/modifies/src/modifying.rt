@@ -1,11 +1,12 @@
 // MODIFY: new data for the run's record; it joins afresh each ring whose key bytes change.
 ghost use Rattle.std.specs.Prelude.{◌≡◌, ◌&&◌};
+ghost use Rattle.ledger.specs.Answers.{number_of};
 ghost use Rattle.ledger.specs.Table.{is_detail, sort_key};
 ghost use Rattle.ring_model.specs.Rings.{master_in, key_twin_in};
 ghost use Rattle.act_model.specs.Modifying.{modify_twin, modify_refusal, moves_in, afresh_in, rejoined_in, rejoined_all, calc_moves_in, calc_prior_in, calc_left, calc_rejoined, data_put, modified_on};
 
 use change::{copies, links};
-use ledger::Answer;
+use ledger::Refusal;
 use model::Between;
 use page::{fields, lookup};
 use puts::storing;
@@ -39,24 +40,22 @@ fn any_twin(table: &[u16], file: &[u8], kind: u16, data: &[u8], x: u32) -> bool
     false
 }
 
-// MODIFY's refusal, or 0; `x` is the run's record.
-pub fn modify_refusal(table: &[u16], file: &[u8], x: u32, data: &[u8]) -> u8
-    ensures { result ≡ modify_refusal table.now file.now x «data».now }
+// Whether MODIFY is refused; `x` is the run's record.
+#[tactic(auto, unfolding(act_model::specs::Modifying::modify_refusal))]
+pub fn modify_refusal(table: &[u16], file: &[u8], x: u32, data: &[u8]) -> Result<(), Refusal>
+    ensures { number_of result ≡ modify_refusal table.now file.now x «data».now }
 {
     if x == 0 {
-        return Answer::NO_CURRENT;
+        return Err(Refusal::NoCurrent);
     }
     let kind = fields::kind_at(file, x);
     if data.len() != words::kind_word(table, kind, words::DATA_LENGTH) as usize {
-        return Answer::BAD_LENGTH;
+        return Err(Refusal::BadLength);
     }
-    if rings::calc_twin(table, file, kind, data, x) {
-        return Answer::DUPLICATE;
+    if rings::calc_twin(table, file, kind, data, x) || any_twin(table, file, kind, data, x) {
+        return Err(Refusal::Duplicate);
     }
-    if any_twin(table, file, kind, data, x) {
-        return Answer::DUPLICATE;
-    }
-    0
+    Ok(())
 }
 
 // Whether chain `j` has the type as detail and its key bytes change.

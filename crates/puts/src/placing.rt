@@ -1,6 +1,7 @@
 // Where STORE places a record.
 ghost use Rattle.std.specs.Prelude.{◌≡◌, ◌-◌};
-ghost use Rattle.ledger.specs.Numbers.{run, first_of};
+ghost use Rattle.std.specs.List.{find};
+ghost use Rattle.ledger.specs.Numbers.{run, or_none};
 ghost use Rattle.act_model.specs.Placing.{occurrence_in, in_range, base_page_in, takes_in, place_for_in};
 
 use ledger::Currency;
@@ -58,31 +59,20 @@ fn takes(file: &[u8], size: u32, p: u32) -> bool
     0 < gap.line
 }
 
-// The first page from `start` on and before `end` that takes `size` bytes, or 0.
-fn first_taking(file: &[u8], size: u32, start: u32, end: u32) -> u32
-    ensures { result ≡ first_of (takes_in file.now size) (run start (end - start)) }
+// The first page from `start` on and before `end` that takes `size` bytes.
+fn first_taking(file: &[u8], size: u32, start: u32, end: u32) -> Option<u32>
+    ensures { result ≡ find (takes_in file.now size) (run start (end - start)) }
 {
-    let mut p = start;
-    while p < end {
-        if takes(file, size, p) {
-            return p;
-        }
-        p += 1;
-    }
-    0
+    (start..end).find(|&p| takes(file, size, p))
 }
 
-// The page that takes a record of a type, or 0: from the base up to the highest, then from the lowest.
-pub fn place_for(table: &[u16], file: &[u8], cur: Currency, kind: u16, data: &[u8]) -> u32
-    ensures { result ≡ place_for_in table.now file.now cur kind «data».now }
+// The page that takes a record of a type: from the base up to the highest, then from the lowest.
+pub fn place_for(table: &[u16], file: &[u8], cur: Currency, kind: u16, data: &[u8]) -> Option<u32>
+    ensures { result ≡ or_none (place_for_in table.now file.now cur kind «data».now) }
 {
     let low = words::kind_word(table, kind, words::LOW_PAGE) as u32;
     let high = words::kind_word(table, kind, words::HIGH_PAGE) as u32;
     let size = sizes::record_size(table, kind);
     let base = base_page(table, file, cur, kind, data);
-    let up = first_taking(file, size, base, high + 1);
-    if up != 0 {
-        return up;
-    }
-    first_taking(file, size, low, base)
+    first_taking(file, size, base, high + 1).or_else(|| first_taking(file, size, low, base))
 }

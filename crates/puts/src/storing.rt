@@ -1,5 +1,6 @@
 // STORE: decided on a shared file, then carried out.
 ghost use Rattle.std.specs.Prelude.{◌≡◌, ◌&&◌, eqb};
+ghost use Rattle.ledger.specs.Answers.{number_of};
 ghost use Rattle.ledger.specs.Table.{is_detail, sort_key};
 ghost use Rattle.ledger.specs.Currency.{chain_current};
 ghost use Rattle.ring_model.specs.Rings.{key_twin_in};
@@ -8,7 +9,7 @@ ghost use Rattle.act_model.specs.Storing.{lacks_current, store_twin, store_refus
 
 use crate::placing;
 use change::links;
-use ledger::{Answer, Currency};
+use ledger::{Currency, Refusal};
 use looks::currency;
 use model::{Between, Gap, Places};
 use page::{fields, room};
@@ -69,26 +70,30 @@ fn any_twin(table: &[u16], file: &[u8], cur: Currency, kind: u16, data: &[u8]) -
     false
 }
 
-// STORE's refusal before its place is looked for, or 0.
-pub fn store_refusal(table: &[u16], file: &[u8], cur: Currency, kind: u16, data: &[u8]) -> u8
-    ensures { result ≡ store_refusal table.now file.now cur kind «data».now }
+// Whether STORE is refused before its place is looked for.
+#[tactic(auto, unfolding(act_model::specs::Storing::store_refusal))]
+pub fn store_refusal(
+    table: &[u16],
+    file: &[u8],
+    cur: Currency,
+    kind: u16,
+    data: &[u8],
+) -> Result<(), Refusal>
+    ensures { number_of result ≡ store_refusal table.now file.now cur kind «data».now }
 {
     if !words::is_defined(table, kind) {
-        return Answer::UNKNOWN;
+        return Err(Refusal::Unknown);
     }
     if lacks_current(table, cur, kind) {
-        return Answer::NO_CURRENT;
+        return Err(Refusal::NoCurrent);
     }
     if data.len() != words::kind_word(table, kind, words::DATA_LENGTH) as usize {
-        return Answer::BAD_LENGTH;
+        return Err(Refusal::BadLength);
     }
-    if rings::calc_twin(table, file, kind, data, 0) {
-        return Answer::DUPLICATE;
+    if rings::calc_twin(table, file, kind, data, 0) || any_twin(table, file, cur, kind, data) {
+        return Err(Refusal::Duplicate);
     }
-    if any_twin(table, file, cur, kind, data) {
-        return Answer::DUPLICATE;
-    }
-    0
+    Ok(())
 }
 
 // The neighbours of a new record `x` in chain `j`: itself where it is the master.

@@ -1,39 +1,38 @@
 // RELINK: the run's record leaves its ring of a chain and joins another master's.
 ghost use Rattle.std.specs.Prelude.{◌≡◌};
+ghost use Rattle.ledger.specs.Answers.{number_of};
 ghost use Rattle.model.specs.Keys.{sort_key_in};
 ghost use Rattle.ring_model.specs.Rings.{between_in};
 ghost use Rattle.act_model.specs.Relinking.{relink_refusal, stands_in, moved_in, relinked_on};
 
 use change::links;
-use ledger::Answer;
+use ledger::Refusal;
 use model::Between;
 use page::{fields, keys};
 use table::words;
 
-// RELINK's refusal, or 0; `x` is the run's record.
-pub fn relink_refusal(table: &[u16], file: &[u8], x: u32, j: u16, m: u32) -> u8
-    ensures { result ≡ relink_refusal table.now file.now x j m }
+// Whether RELINK is refused; `x` is the run's record.
+#[tactic(auto, unfolding(act_model::specs::Relinking::relink_refusal, act_model::specs::Relinking::masters_in))]
+pub fn relink_refusal(table: &[u16], file: &[u8], x: u32, j: u16, m: u32) -> Result<(), Refusal>
+    ensures { number_of result ≡ relink_refusal table.now file.now x j m }
 {
     if words::word(table, words::CHAINS) <= j {
-        return Answer::UNKNOWN;
+        return Err(Refusal::Unknown);
     }
     if x == 0 {
-        return Answer::NO_CURRENT;
+        return Err(Refusal::NoCurrent);
     }
     if !words::is_detail(table, j, fields::kind_at(file, x)) {
-        return Answer::WRONG_KIND;
+        return Err(Refusal::WrongKind);
     }
     let kind = fields::kind_at(file, m);
-    if kind == 0 {
-        return Answer::NO_RECORD;
-    }
-    if !words::is_master(table, j, kind) {
-        return Answer::NO_RECORD;
+    if kind == 0 || !words::is_master(table, j, kind) {
+        return Err(Refusal::NoRecord);
     }
     if rings::twin_in(table, file, j, m, keys::sort_key_at(table, file, j, x), x) {
-        return Answer::DUPLICATE;
+        return Err(Refusal::Duplicate);
     }
-    0
+    Ok(())
 }
 
 // The neighbours of a record in its ring now.

@@ -4,7 +4,7 @@ ghost use Rattle.ledger.specs.Promise.{Checks, ChecksSize};
 ghost use Rattle.store_model.specs.Checks.{size_refusal, audit_refusal, currency_refusal, refusal_on};
 
 use audit::faults;
-use ledger::{Answer, Currency};
+use ledger::{Answer, Currency, Refusal};
 use looks::currency;
 use page::lookup;
 use table::{rules, words};
@@ -24,10 +24,14 @@ pub fn check_size(table: &[u16], file: &[u8]) -> u8
 }
 
 // Refusal 3, or 0.
+#[tactic(auto, unfolding(store_model::specs::Checks::audit_refusal))]
 fn check_file(table: &[u16], file: &[u8]) -> u8
     ensures { result ≡ audit_refusal table.now file.now }
 {
-    faults::refusal(faults::audit(table, file))
+    match faults::audit(table, file) {
+        Ok(()) => 0,
+        Err(fault) => Refusal::from(fault).code(),
+    }
 }
 
 // Refusal 4, or 0.

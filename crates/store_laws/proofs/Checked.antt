@@ -20,8 +20,8 @@ use Rattle.ledger.specs.Promise.{Refused, Checks, ChecksSize, Plays}
 use Rattle.ledger.proofs.Lists.Tests.{by_cases, not_true_false}
 use Rattle.ledger.proofs.Ledger.Accepts.{accepts_exactly}
 use Rattle.ledger.proofs.Ledger.Fields.{file_length}
+use Rattle.std.specs.Prelude.{⊤, Result, Ok, Err}
 use Rattle.model.specs.declared.Fault.{Fault}
-use Rattle.model.specs.declared.Fault.TheVariants.{Nowhere, Page, Ring, Order}
 use Rattle.audit_model.specs.Faults.{first_place, audit_on, fault_number}
 use Rattle.look_model.specs.Currencies.{in_force_on}
 use Rattle.audit_laws.proofs.Firsts.{first_place_lem}
@@ -46,11 +46,9 @@ checks_size t f = record {
 }
 
 -- the number of a fault is 3
-fault_number_lem : (x : Fault) → (fault_number x ≡ 0 → ⊥) → fault_number x ≡ 3
-fault_number_lem Nowhere n = absurd (n refl)
-fault_number_lem (Page p) n = refl
-fault_number_lem (Ring x) n = refl
-fault_number_lem (Order x) n = refl
+fault_number_lem : (x : Result ⊤ Fault) → (fault_number x ≡ 0 → ⊥) → fault_number x ≡ 3
+fault_number_lem (Ok sound) n = absurd (n refl)
+fault_number_lem (Err fault) n = refl
 
 -- 3 and 4 after them
 module _ (t f : List ℕ) (cur : Currency) (small : (i : ℕ) → get_or f i 0 < 256) (ty : length cur.types ≡ 16) (ch : length cur.chains ≡ 16) where

@@ -5,6 +5,7 @@ use mathlib.Core.Bool.{Bool, true, cond, not, ◌||◌}
 use mathlib.Core.List.{List, [], ◌∷◌}
 use lib.ListN.{length}
 use lib.Dec.{eqb, ltb, leb}
+use Rattle.std.specs.Prelude.{⊤, Result, Ok, Err}
 use Rattle.ledger.specs.declared.Currency.{Currency}
 use Rattle.ledger.specs.declared.Outcome.{Outcome}
 use Rattle.ledger.specs.Numbers.{elem}
@@ -20,7 +21,6 @@ use Rattle.look_model.specs.Currencies.{in_force_on}
 use Rattle.ledger.specs.Promise.{ComesBack}
 use Rattle.ledger.proofs.Lists.Tests.{by_cases}
 use Rattle.model.specs.declared.Fault.{Fault}
-use Rattle.model.specs.declared.Fault.TheVariants.{Nowhere, Page, Ring, Order}
 use Rattle.model.specs.declared.Found.{Found}
 use Rattle.audit_model.specs.Faults.{first_place, audit_on, fault_number}
 use Rattle.look_model.specs.Looks.{direct_on, reached_on, found_on, key_on, current_on, find_on, on_chain, along_on, next_on, prior_on, master_on, each_on, read_on}
@@ -82,12 +82,10 @@ module _ (ns : List ℕ) where
   abbrev Four : List ℕ
   Four = 1 ∷ 2 ∷ 3 ∷ 4 ∷ ns
 
-  of_fault : (x : Fault) → Among Four (fault_number x)
+  of_fault : (x : Result ⊤ Fault) → Among Four (fault_number x)
   unfolding elem
-  of_fault Nowhere = among refl
-  of_fault (Page p) = among refl
-  of_fault (Ring x) = among refl
-  of_fault (Order x) = among refl
+  of_fault (Ok sound) = among refl
+  of_fault (Err fault) = among refl
 
   of_currency : (t f : List ℕ) (cur : Currency) → Among Four (currency_refusal t f cur)
   unfolding currency_refusal elem

@@ -7,42 +7,17 @@ use native.Mathlib.Omega.{arith}
 use borrow.Author.Tests.{eq-eqb, ne_eqb, lt-ltb, le-ltb, not-true, not-false}
 use lib.ListN.{length}
 use Rattle.ledger.specs.Numbers.{same_key}
-use Rattle.ledger.specs.Table.{chains, row, data_len, calculated, is_detail, calc_key, sort_key}
+use Rattle.ledger.specs.Table.{chains, calculated, is_detail, calc_key, sort_key}
 use Rattle.ledger.specs.Pages.{home}
 use Rattle.model.specs.declared.Between.{Between}
 use Rattle.model.specs.Reads.{place_in, kind_in}
 use Rattle.model.specs.Keys.{sort_key_in, calc_key_in}
 use Rattle.model.specs.Moves.{part_put}
-use Rattle.ring_model.specs.Rings.{master_in, between_in, calc_twin_in, calc_before_in}
+use Rattle.ring_model.specs.Rings.{master_in, between_in, calc_before_in}
 use Rattle.change.proofs.Laws.Copies.{part_put_past}
 use Rattle.act_model.specs.Storing.{calc_entered}
 use Rattle.act_model.specs.Relinking.{stands_in, moved_in}
-use Rattle.act_model.specs.Modifying.{modify_twin, modify_refusal, moves_in, afresh_in, rejoined_in, rejoined_from, rejoined_all, calc_moves_in, calc_prior_in, calc_left, calc_rejoined, data_put, modified_on}
-
--- modify_refusal
-module _ (t f : List ℕ) (x : ℕ) (d : List ℕ) where
-  pub modify_no_current : x ≡ 0 → 6 ≡ modify_refusal t f x d
-  unfolding modify_refusal
-  modify_no_current h = rw (eq-eqb x 0 h)
-
-  module _ (n w : ℕ) (h6 : x ≡ 0 → ⊥) (en : n ≡ kind_in f x) (ew : w ≡ data_len t (row t n)) where
-    pub modify_length : (length d ≡ w → ⊥) → 8 ≡ modify_refusal t f x d
-    unfolding modify_refusal
-    modify_length h = rw (← en, ne_eqb x 0 h6, ← ew, ne_eqb (length d) w h)
-
-    module _ (twin : Bool) (h8 : length d ≡ w) (et : twin ≡ calc_twin_in t f n d x) where
-      pub modify_calc_twin : twin ≡ true → 10 ≡ modify_refusal t f x d
-      unfolding modify_refusal
-      modify_calc_twin h = rw (← en, ne_eqb x 0 h6, ← ew, eq-eqb (length d) w h8, ← et, h)
-
-      module _ (other : Bool) (h10 : twin ≡ false) (eo : other ≡ modify_twin t f n d x) where
-        pub modify_twin_lem : other ≡ true → 10 ≡ modify_refusal t f x d
-        unfolding modify_refusal
-        modify_twin_lem h = rw (← en, ne_eqb x 0 h6, ← ew, eq-eqb (length d) w h8, ← et, h10, ← eo, h)
-
-        pub modify_free : other ≡ false → 0 ≡ modify_refusal t f x d
-        unfolding modify_refusal
-        modify_free h = rw (← en, ne_eqb x 0 h6, ← ew, eq-eqb (length d) w h8, ← et, h10, ← eo, h)
+use Rattle.act_model.specs.Modifying.{moves_in, afresh_in, rejoined_in, rejoined_from, rejoined_all, calc_moves_in, calc_prior_in, calc_left, calc_rejoined, data_put, modified_on}
 
 -- moves_in
 module _ (t f : List ℕ) (n : ℕ) (d : List ℕ) (x j m : ℕ) (em : m ≡ chains t) where

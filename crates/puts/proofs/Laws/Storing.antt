@@ -4,10 +4,10 @@ use mathlib.Core.Path.{◌≡◌, refl, sym}
 use mathlib.Core.Bool.{Bool, true, false, not}
 use mathlib.Core.List.{List}
 use native.Mathlib.Omega.{arith}
-use borrow.Author.Tests.{eq-eqb, ne_eqb, lt-ltb, le-ltb, not-true, not-false}
-use lib.ListN.{length, get_or, set, replicate}
+use borrow.Author.Tests.{lt-ltb, le-ltb, not-true, not-false}
+use lib.ListN.{get_or, set, replicate}
 use Rattle.ledger.specs.declared.Currency.{Currency}
-use Rattle.ledger.specs.Table.{chains, row, data_len, defined, calculated, is_detail, in_chain, calc_key, sort_key}
+use Rattle.ledger.specs.Table.{chains, calculated, is_detail, in_chain, calc_key, sort_key}
 use Rattle.ledger.specs.Pages.{record_size, home}
 use Rattle.model.specs.declared.Gap.{Gap}
 use Rattle.model.specs.declared.Between.{Between}
@@ -16,39 +16,9 @@ use Rattle.ledger.specs.Bytes.{page_in}
 use Rattle.model.specs.Room.{first_gap}
 use Rattle.model.specs.Writes.{linked_in}
 use Rattle.model.specs.Moves.{put_in}
-use Rattle.ring_model.specs.Rings.{between_in, calc_twin_in}
+use Rattle.ring_model.specs.Rings.{between_in}
 use Rattle.act_model.specs.Placing.{occurrence_in}
-use Rattle.act_model.specs.Storing.{lacks_current, store_twin, store_refusal, gap_in, places_from, places_by, place_at, entered_in, entered_from, entered_all, calc_entered, calc_joined, stored_code, stored_with, stored_on}
-
--- store_refusal
-module _ (t f : List ℕ) (cur : Currency) (n : ℕ) (d : List ℕ) (is : Bool) (ei : is ≡ defined t n) where
-  pub store_unknown : not is ≡ true → 5 ≡ store_refusal t f cur n d
-  unfolding store_refusal
-  store_unknown h = rw (← ei, h)
-
-  module _ (lacks : Bool) (h5 : not is ≡ false) (el : lacks ≡ lacks_current t cur n) where
-    pub store_no_current : lacks ≡ true → 6 ≡ store_refusal t f cur n d
-    unfolding store_refusal
-    store_no_current h = rw (← ei, h5, ← el, h)
-
-    module _ (w : ℕ) (h6 : lacks ≡ false) (ew : w ≡ data_len t (row t n)) where
-      pub store_length : (length d ≡ w → ⊥) → 8 ≡ store_refusal t f cur n d
-      unfolding store_refusal
-      store_length h = rw (← ei, h5, ← el, h6, ← ew, ne_eqb (length d) w h)
-
-      module _ (twin : Bool) (h8 : length d ≡ w) (et : twin ≡ calc_twin_in t f n d 0) where
-        pub store_calc_twin : twin ≡ true → 10 ≡ store_refusal t f cur n d
-        unfolding store_refusal
-        store_calc_twin h = rw (← ei, h5, ← el, h6, ← ew, eq-eqb (length d) w h8, ← et, h)
-
-        module _ (other : Bool) (h10 : twin ≡ false) (eo : other ≡ store_twin t f cur n d) where
-          pub store_twin_lem : other ≡ true → 10 ≡ store_refusal t f cur n d
-          unfolding store_refusal
-          store_twin_lem h = rw (← ei, h5, ← el, h6, ← ew, eq-eqb (length d) w h8, ← et, h10, ← eo, h)
-
-          pub store_free : other ≡ false → 0 ≡ store_refusal t f cur n d
-          unfolding store_refusal
-          store_free h = rw (← ei, h5, ← el, h6, ← ew, eq-eqb (length d) w h8, ← et, h10, ← eo, h)
+use Rattle.act_model.specs.Storing.{gap_in, places_from, places_by, place_at, entered_in, entered_from, entered_all, calc_entered, calc_joined, stored_code, stored_with, stored_on}
 
 -- gap_in
 module _ (t f : List ℕ) (cur : Currency) (n : ℕ) (d : List ℕ) (x j : ℕ) (is : Bool) (ei : is ≡ is_detail t j n) where

@@ -8,8 +8,7 @@ use borrow.Author.Tests.{eq-eqb, ne_eqb, not-true, not-false}
 use Rattle.ledger.specs.declared.Currency.{Currency}
 use Rattle.ledger.specs.Table.{pages}
 use Rattle.ledger.specs.Rules.{accepts}
-use Rattle.model.specs.declared.Fault.{Fault}
-use Rattle.audit_model.specs.Faults.{first_place, audit_on, fault_number}
+use Rattle.audit_model.specs.Faults.{first_place}
 use Rattle.look_model.specs.Currencies.{in_force_on}
 use Rattle.store_model.specs.Checks.{size_refusal, audit_refusal, currency_refusal, refusal_on}
 
@@ -26,10 +25,6 @@ module _ (t f : List ℕ) (a : Bool) (ea : a ≡ accepts t) where
     pub size_right : length f ≡ 512 * n → 0 ≡ size_refusal t f
     unfolding size_refusal
     size_right h = rw (← ea, not-false a e, ← en, eq-eqb (length f) (512 * n) h)
-
-pub audit_is : (t f : List ℕ) (x : Fault) (n : ℕ) → x ≡ audit_on t f → n ≡ fault_number x → n ≡ audit_refusal t f
-unfolding audit_refusal
-audit_is t f x n e en = rw e at en
 
 module _ (t f : List ℕ) (cur : Currency) (b : Bool) (eb : b ≡ in_force_on t f cur) where
   pub currency_right : b ≡ true → 0 ≡ currency_refusal t f cur

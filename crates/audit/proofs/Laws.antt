@@ -1,2 +1,0 @@
--- The laws behind the audit's functions: one for each way out.
-pub mod Faults
