@@ -3,5 +3,4 @@ pub mod Bytes
 pub mod Fields
 pub mod Lookup
 pub mod Room
-pub mod Tests
 pub mod Writes

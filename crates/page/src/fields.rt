@@ -1,68 +1,65 @@
-// A record's fields by its code: 0, or no bytes, where there is no record.
+// A record's fields by its code: 0, or no bytes, where there is no record. Numbers and no Options: `kind_in`, `next_in` and the
+// others are 0 there, as what a page says, and 0 is the null of a link in the file.
 ghost use Rattle.std.specs.Prelude.{◌≡◌, ◌+◌};
 ghost use Rattle.ledger.specs.Numbers.{part};
 ghost use Rattle.ledger.specs.Table.{calc_key, sort_key};
-ghost use Rattle.model.specs.Reads.{kind_from, link_from, kind_in, next_in, prior_in, calc_next_in, head_next_in, data_in};
+ghost use Rattle.table.specs.Links.{link_offset};
+ghost use Rattle.model.specs.Reads.{place_in, link_from, kind_in, next_in, prior_in, calc_next_in, head_next_in, data_in};
 
 use crate::{bytes, lookup};
-use table::{sizes, words};
+use table::sizes::{self, Link};
+use table::words;
 
 // Where CALC NEXT stands in a page's header.
 pub const HEAD_LINK: usize = 13;
-
-// The type of the record that starts at `at`; 0 where `at` is 0, the place of no record.
-pub fn kind_from(file: &[u8], at: usize) -> u16
-    ensures { result ≡ kind_from file.now at }
-{
-    if at == 0 { 0 } else { bytes::two_at(file, at) }
-}
-
-// The link that stands `k` bytes into it.
-fn link_from(file: &[u8], at: usize, k: usize) -> u32
-    ensures { result ≡ link_from file.now at k }
-{
-    if at == 0 {
-        0
-    } else {
-        bytes::three_off(file, at, k)
-    }
-}
 
 // The type of a code's record.
 pub fn kind_at(file: &[u8], code: u32) -> u16
     ensures { result ≡ kind_in file.now code }
 {
-    kind_from(file, lookup::find(file, code))
+    match lookup::find(file, code) {
+        Some(at) => bytes::two_at(file, at),
+        None => 0,
+    }
+}
+
+// One of its links.
+fn link_at(table: &[u16], file: &[u8], link: Link, code: u32) -> u32
+    ensures { result ≡ link_from file.now (place_in file.now code) (link_offset table.now (kind_in file.now code) link) }
+{
+    let Some(at) = lookup::find(file, code) else {
+        return 0;
+    };
+    let kind = bytes::two_at(file, at);
+    bytes::three_off(file, at, sizes::offset(table, kind, link))
 }
 
 // Its NEXT in chain `j`.
+#[tactic(auto, unfolding(model::specs::Reads::next_in))]
 pub fn next_at(table: &[u16], file: &[u8], j: u16, code: u32) -> u32
     ensures { result ≡ next_in table.now file.now j code }
 {
-    let at = lookup::find(file, code);
-    let kind = kind_from(file, at);
-    link_from(file, at, sizes::link_at(table, kind, j) as usize)
+    link_at(table, file, Link::Next(j), code)
 }
 
 // What stands where its PRIOR would in chain `j`.
+#[tactic(auto, unfolding(model::specs::Reads::prior_in))]
 pub fn prior_at(table: &[u16], file: &[u8], j: u16, code: u32) -> u32
     ensures { result ≡ prior_in table.now file.now j code }
 {
-    let at = lookup::find(file, code);
-    let kind = kind_from(file, at);
-    link_from(file, at, sizes::link_at(table, kind, j) as usize + 3)
+    link_at(table, file, Link::Prior(j), code)
 }
 
 // Its CALC NEXT.
+#[tactic(auto, unfolding(model::specs::Reads::calc_next_in))]
 pub fn calc_next_at(table: &[u16], file: &[u8], code: u32) -> u32
     ensures { result ≡ calc_next_in table.now file.now code }
 {
-    let at = lookup::find(file, code);
-    let kind = kind_from(file, at);
-    link_from(file, at, sizes::calc_at(table, kind) as usize)
+    link_at(table, file, Link::CalcNext, code)
 }
 
 // The CALC NEXT of page `p`'s header.
+#[tactic(auto, unfolding(model::specs::Reads::head_next_in))]
 pub fn head_next(file: &[u8], p: u32) -> u32
     ensures { result ≡ head_next_in file.now p }
 {
@@ -76,23 +73,23 @@ pub fn head_next(file: &[u8], p: u32) -> u32
 fn part_off(f: &[u8], o: usize, k: usize, n: usize) -> &[u8]
     ensures { result.now ≡ part (o + k) n f.now }
 {
-    bytes::part_of(bytes::part_of(f, o, f.len()), k, n)
+    bytes::part_of(bytes::rest_of(f, o), k, n)
 }
 
 // The data of a code's record.
 pub fn data_of<'a>(table: &[u16], file: &'a [u8], code: u32) -> &'a [u8]
     ensures { result.now ≡ data_in table.now file.now code }
 {
-    let at = lookup::find(file, code);
-    if at == 0 {
-        return bytes::part_of(file, 0, 0);
-    }
-    let kind = kind_from(file, at);
+    let Some(at) = lookup::find(file, code) else {
+        return &[];
+    };
+    let kind = bytes::two_at(file, at);
     let n = words::kind_word(table, kind, words::DATA_LENGTH) as usize;
     part_off(file, at, sizes::HEAD as usize, n)
 }
 
 // The CALC key in the data of a record of a type.
+#[tactic(auto, unfolding(ledger::specs::Table::calc_key))]
 pub fn calc_key<'a>(table: &[u16], kind: u16, data: &'a [u8]) -> &'a [u8]
     ensures { result.now ≡ calc_key table.now kind «data».now }
 {
@@ -102,6 +99,7 @@ pub fn calc_key<'a>(table: &[u16], kind: u16, data: &'a [u8]) -> &'a [u8]
 }
 
 // The key of chain `j` in the data of a record of a type.
+#[tactic(auto, unfolding(ledger::specs::Table::sort_key))]
 pub fn sort_key<'a>(table: &[u16], j: u16, kind: u16, data: &'a [u8]) -> &'a [u8]
     ensures { result.now ≡ sort_key table.now j kind «data».now }
 {

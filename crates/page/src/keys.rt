@@ -5,6 +5,7 @@ ghost use Rattle.model.specs.Keys.{sort_key_in, calc_key_in};
 use crate::fields;
 
 // The key of chain `j` in a record.
+#[tactic(auto, unfolding(model::specs::Keys::sort_key_in))]
 pub fn sort_key_at<'a>(table: &[u16], file: &'a [u8], j: u16, code: u32) -> &'a [u8]
     ensures { result.now ≡ sort_key_in table.now file.now j code }
 {
@@ -17,6 +18,7 @@ pub fn sort_key_at<'a>(table: &[u16], file: &'a [u8], j: u16, code: u32) -> &'a 
 }
 
 // The CALC key of a record.
+#[tactic(auto, unfolding(model::specs::Keys::calc_key_in))]
 pub fn calc_key_at<'a>(table: &[u16], file: &'a [u8], code: u32) -> &'a [u8]
     ensures { result.now ≡ calc_key_in table.now file.now code }
 {

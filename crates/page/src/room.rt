@@ -7,11 +7,12 @@ use crate::{bytes, lookup};
 use model::Gap;
 
 // Page `p` of the file, or as many of its bytes as the file has.
+#[tactic(auto, unfolding(ledger::specs::Bytes::page_in))]
 pub fn page_of(file: &[u8], p: u32) -> &[u8]
     ensures { result.now ≡ page_in file.now p }
 {
     if p == 0 {
-        return bytes::part_of(file, 0, 0);
+        return &[];
     }
     let start = lookup::PAGE_BYTES * (p as usize - 1);
     bytes::part_of(file, start, lookup::PAGE_BYTES)
@@ -24,20 +25,17 @@ pub fn free_bytes(page: &[u8]) -> u16
     bytes::two_at(page, 3)
 }
 
-// The lowest free line of a page: the first gap in the walk over its records. Line 0 where all are used.
+// The lowest free line of a page: the first gap in the walk over its records. Line 0 where all are used,
+// and no Option: `stored_on` (act_model) says what STORE writes at that gap too, line 0 and the walk's end.
 pub fn first_gap(page: &[u8]) -> Gap
     ensures { result ≡ first_gap page.now }
 {
-    let mut at: u32 = 16;
-    let mut line: u8 = 1;
-    let mut left: u8 = 63;
-    while 0 < left {
+    let mut at: u32 = lookup::HEADER_BYTES as u32;
+    for line in 1..=lookup::LINES {
         if lookup::line_at(page, at as usize) != line {
             return Gap { line, at };
         }
         at += lookup::size_at(page, at as usize) as u32;
-        line += 1;
-        left -= 1;
     }
     Gap { line: 0, at }
 }
@@ -46,22 +44,12 @@ pub fn first_gap(page: &[u8]) -> Gap
 pub fn flags_at(page: &[u8]) -> u64
     ensures { result ≡ flags_at page.now }
 {
-    let a = bytes::two_at(page, 5) as u64;
-    let b = bytes::two_at(page, 7) as u64;
-    let c = bytes::two_at(page, 9) as u64;
-    let d = bytes::two_at(page, 11) as u64;
-    ((a * 65536 + b) * 65536 + c) * 65536 + d
+    u64::from_be_bytes(bytes::bytes_at(page, 5))
 }
 
 // The flag of a line.
 pub fn bit_of(line: u8) -> u64
     ensures { result ≡ 2 ^ (line % 64) }
 {
-    let mut bit: u64 = 1;
-    let mut left = line % 64;
-    while 0 < left {
-        bit = std::num::wrapping_add_u64(bit, bit);
-        left -= 1;
-    }
-    bit
+    1 << (line % 64)
 }

@@ -8,14 +8,17 @@ use change::copies;
 use model::Gap;
 use page::{bytes, lookup, room, writes};
 
+// The pages that a file has at most.
+const MOST_PAGES: u8 = 128;
+
 // What stands at `i` of a page once `n` bytes are opened at `at`: zeros there, and the rest moved up.
+#[tactic(auto, unfolding(model::specs::Moves::opened_byte))]
 fn opened_byte(page: &[u8], at: usize, n: usize, i: usize) -> u8
     ensures { result ≡ opened_byte page.now at n i }
 {
     if i < at {
-        return bytes::byte_at(page, i);
-    }
-    if i - at < n {
+        bytes::byte_at(page, i)
+    } else if i - at < n {
         0
     } else {
         bytes::byte_at(page, i - n)
@@ -26,71 +29,54 @@ fn opened_byte(page: &[u8], at: usize, n: usize, i: usize) -> u8
 fn opened_page(page: &[u8], at: usize, n: usize) -> [u8; 512]
     ensures { result ≡ fill (opened_byte page.now at n) }
 {
-    let mut out = [0u8; 512];
-    let mut i: usize = 0;
-    while i < 512 {
-        out[i] = opened_byte(page, at, n, i);
-        i += 1;
-    }
-    out
+    std::array::from_fn(|i| opened_byte(page, at, n, i))
 }
 
 // What stands at `i` of a page once `n` bytes at `at` are closed up: the rest moved down, and zeros behind it.
+#[tactic(auto, using(crate::proofs::Laws::Moves::rest_byte), unfolding(model::specs::Moves::closed_byte))]
 fn closed_byte(page: &[u8], at: usize, n: usize, i: usize) -> u8
     ensures { result ≡ closed_byte page.now at n i }
 {
-    let here = bytes::byte_at(page, i);
     if i < at {
-        return here;
+        bytes::byte_at(page, i)
+    } else {
+        bytes::byte_at(bytes::rest_of(page, i), n)
     }
-    if page.len() <= i {
-        return here;
-    }
-    if page.len() - i <= n {
-        return 0;
-    }
-    bytes::byte_at(page, i + n)
 }
 
 // A page with `n` bytes at `at` closed up.
 fn closed_page(page: &[u8], at: usize, n: usize) -> [u8; 512]
     ensures { result ≡ fill (closed_byte page.now at n) }
 {
-    let mut out = [0u8; 512];
-    let mut i: usize = 0;
-    while i < 512 {
-        out[i] = closed_byte(page, at, n, i);
-        i += 1;
-    }
-    out
+    std::array::from_fn(|i| closed_byte(page, at, n, i))
 }
 
 // Opens `n` bytes at `at` in a page, through a page of scratch.
+#[tactic(auto, unfolding(model::specs::Moves::opened_up))]
 fn open_up(page: &mut [u8], at: usize, n: usize)
     ensures { opened_up page.old at n ≡ page.new }
 {
     let scratch = opened_page(page, at, n);
-    copies::put_part(page, 0, &scratch);
+    writes::put_part(page, 0, &scratch);
 }
 
 // Closes a page up over `n` bytes at `at`.
+#[tactic(auto, unfolding(model::specs::Moves::closed_up))]
 fn close_up(page: &mut [u8], at: usize, n: usize)
     ensures { closed_up page.old at n ≡ page.new }
 {
     let scratch = closed_page(page, at, n);
-    copies::put_part(page, 0, &scratch);
+    writes::put_part(page, 0, &scratch);
 }
 
 // Eight bytes of flags.
 fn put_flags(page: &mut [u8], flags: u64)
     ensures { flags_put page.old flags ≡ page.new }
 {
-    copies::put_two(page, 5, (flags / 65536 / 65536 / 65536) as u16);
-    copies::put_two(page, 7, (flags / 65536 / 65536 % 65536) as u16);
-    copies::put_two(page, 9, (flags / 65536 % 65536) as u16);
-    copies::put_two(page, 11, (flags % 65536) as u16);
+    writes::put_part(page, 5, &flags.to_be_bytes());
 }
 
+#[tactic(auto, unfolding(model::specs::Moves::counts_put))]
 fn put_counts(page: &mut [u8], free: u16, flags: u64)
     ensures { counts_put page.old free flags ≡ page.new }
 {
@@ -99,30 +85,33 @@ fn put_counts(page: &mut [u8], free: u16, flags: u64)
 }
 
 // The counts of a page with a record more or less. They wrap, so that no page's bytes make a sum fail.
+#[tactic(auto, unfolding(model::specs::Moves::less_by))]
 fn free_less(page: &[u8], size: u16) -> u16
     ensures { result ≡ less_by (2 ^ 16) (two_at page.now 3) size }
 {
-    std::num::wrapping_sub_u16(room::free_bytes(page), size)
+    room::free_bytes(page).wrapping_sub(size)
 }
 
 fn free_more(page: &[u8], size: u16) -> u16
     ensures { result ≡ (two_at page.now 3 + size) % 2 ^ 16 }
 {
-    std::num::wrapping_add_u16(room::free_bytes(page), size)
+    room::free_bytes(page).wrapping_add(size)
 }
 
 fn flags_with(page: &[u8], line: u8) -> u64
     ensures { result ≡ (flags_at page.now + 2 ^ (line % 64)) % 2 ^ 64 }
 {
-    std::num::wrapping_add_u64(room::flags_at(page), room::bit_of(line))
+    room::flags_at(page).wrapping_add(room::bit_of(line))
 }
 
+#[tactic(auto, unfolding(model::specs::Moves::less_by))]
 fn flags_without(page: &[u8], line: u8) -> u64
     ensures { result ≡ less_by (2 ^ 64) (flags_at page.now) (2 ^ (line % 64)) }
 {
-    std::num::wrapping_sub_u64(room::flags_at(page), room::bit_of(line))
+    room::flags_at(page).wrapping_sub(room::bit_of(line))
 }
 
+#[tactic(auto, unfolding(model::specs::Moves::head_put))]
 fn put_head(page: &mut [u8], gap: Gap, kind: u16, size: u16)
     ensures { head_put page.old gap kind size ≡ page.new }
 {
@@ -133,15 +122,17 @@ fn put_head(page: &mut [u8], gap: Gap, kind: u16, size: u16)
 }
 
 // A record's head and data.
+#[tactic(auto, unfolding(model::specs::Moves::fields_put))]
 fn put_fields(page: &mut [u8], gap: Gap, kind: u16, size: u16, data: &[u8])
     ensures { fields_put page.old gap kind size «data».now ≡ page.new }
 {
     let at = gap.at as usize;
     put_head(page, gap, kind, size);
-    copies::put_part(page, at + 5, data);
+    writes::put_part(page, at + 5, data);
 }
 
 // Opens room for a record in a page and writes its head and data; its links are 0.
+#[tactic(auto, unfolding(model::specs::Moves::record_put))]
 pub fn put_record(page: &mut [u8], gap: Gap, kind: u16, size: u16, data: &[u8])
     ensures { record_put page.old gap kind size «data».now ≡ page.new }
 {
@@ -154,6 +145,7 @@ pub fn put_record(page: &mut [u8], gap: Gap, kind: u16, size: u16, data: &[u8])
 }
 
 // Closes a page up over the record that starts at `at`.
+#[tactic(auto, unfolding(model::specs::Moves::record_taken))]
 pub fn take_record(page: &mut [u8], at: usize)
     ensures { record_taken page.old at ≡ page.new }
 {
@@ -169,51 +161,38 @@ pub fn take_record(page: &mut [u8], at: usize)
 fn take_line(page: &mut [u8], line: u8)
     ensures { line_taken page.old line ≡ page.new }
 {
-    let at = lookup::find_line(page, line);
-    if at == 0 {
-        return;
+    if let Some(at) = lookup::find_line(page, line) {
+        take_record(page, at as usize);
     }
-    take_record(page, at as usize);
 }
 
 // Puts a record of a type into page `p` at a gap.
 pub fn put_in(file: &mut [u8], p: u32, gap: Gap, kind: u16, size: u16, data: &[u8])
     ensures { put_in file.old p gap kind size «data».now ≡ file.new }
 {
-    if p == 0 {
-        return;
+    if let Some(start) = lookup::start_of(file, p) {
+        let page = &mut file[start..start + lookup::PAGE_BYTES];
+        put_record(page, gap, kind, size, data);
     }
-    let start = lookup::PAGE_BYTES * (p as usize - 1);
-    let end = start + lookup::PAGE_BYTES;
-    if file.len() < end {
-        return;
-    }
-    put_record(&mut file[start..end], gap, kind, size, data);
 }
 
 // Takes a code's record out of its page.
 pub fn take_out(file: &mut [u8], code: u32)
     ensures { take_out file.old code ≡ file.new }
 {
-    let page = (code / 64) as usize;
-    if page == 0 {
-        return;
+    if let Some(start) = lookup::start_of(file, code / 64) {
+        let page = &mut file[start..start + lookup::PAGE_BYTES];
+        take_line(page, (code % 64) as u8);
     }
-    let start = lookup::PAGE_BYTES * (page - 1);
-    let end = start + lookup::PAGE_BYTES;
-    if file.len() < end {
-        return;
-    }
-    take_line(&mut file[start..end], (code % 64) as u8);
 }
 
 // Makes page `p` an empty one.
+#[tactic(auto, unfolding(model::specs::Moves::page_made))]
 fn format_page(page: &mut [u8], p: u8)
     ensures { page_made page.old p ≡ page.new }
 {
-    let zeros = [0u8; 512];
-    let header = 64 * (p as u32);
-    copies::put_part(page, 0, &zeros);
+    let header = 64 * p as u32;
+    writes::put_part(page, 0, &[0; 512]);
     writes::put_three(page, 0, header);
     put_counts(page, 496, 1);
     writes::put_three(page, 13, header);
@@ -223,16 +202,10 @@ fn format_page(page: &mut [u8], p: u8)
 pub fn format_file(file: &mut [u8])
     ensures { file_made file.old ≡ file.new }
 {
-    let mut p: u8 = 1;
-    let mut left: u8 = 128;
-    while 0 < left {
-        let start = lookup::PAGE_BYTES * (p as usize - 1);
-        let end = start + lookup::PAGE_BYTES;
-        if file.len() < end {
+    for p in 1..=MOST_PAGES {
+        let Some(start) = lookup::start_of(file, p as u32) else {
             return;
-        }
-        format_page(&mut file[start..end], p);
-        p += 1;
-        left -= 1;
+        };
+        format_page(&mut file[start..start + lookup::PAGE_BYTES], p);
     }
 }

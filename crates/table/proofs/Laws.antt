@@ -2,4 +2,3 @@
 pub mod Words
 pub mod Sizes
 pub mod Keys
-pub mod Rules

@@ -9,21 +9,14 @@ use super::words;
 fn add_byte(h: u16, byte: u8) -> u16
     ensures { result ≡ (2 * h + byte) % 65536 }
 {
-    let doubled = std::num::wrapping_add_u16(h, h);
-    std::num::wrapping_add_u16(doubled, byte as u16)
+    h.wrapping_mul(2).wrapping_add(byte as u16)
 }
 
 // Randomizing: a step for each byte of the key.
 pub fn randomize(key: &[u8]) -> u16
     ensures { result ≡ hash_from 0 key.now }
 {
-    let mut h: u16 = 0;
-    let mut i: usize = 0;
-    while i < key.len() {
-        h = add_byte(h, key[i]);
-        i += 1;
-    }
-    h
+    key.iter().fold(0, |h, &byte| add_byte(h, byte))
 }
 
 // The page whose CALC ring holds the records of a type with this key: the low page where the range's ends are crossed.
@@ -42,32 +35,12 @@ pub fn home_page(table: &[u16], number: u16, key: &[u8]) -> u32
 pub fn same_key(a: &[u8], b: &[u8]) -> bool
     ensures { result ≡ same_key a.now b.now }
 {
-    let mut i: usize = 0;
-    while i < a.len() {
-        if b.len() <= i {
-            return false;
-        }
-        if a[i] != b[i] {
-            return false;
-        }
-        i += 1;
-    }
-    b.len() <= i
+    a == b
 }
 
 // Whether key `a` comes before key `b`: a key that is the front of another comes before it.
 pub fn less_key(a: &[u8], b: &[u8]) -> bool
     ensures { result ≡ less_key a.now b.now }
 {
-    let mut i: usize = 0;
-    while i < a.len() {
-        if b.len() <= i {
-            return false;
-        }
-        if a[i] != b[i] {
-            return a[i] < b[i];
-        }
-        i += 1;
-    }
-    i < b.len()
+    a < b
 }

@@ -9,7 +9,8 @@ pub const TYPES: usize = 1;
 
 pub const CHAINS: usize = 2;
 
-// Words of a type's row.
+// Words of a type's row. Numbers and no enum, as those of a chain's row: `type_word`, `chain_word` and `kind_word` are
+// public and take any `w: u8`, so an enum would ask more of callers.
 pub const NUMBER: u8 = 0;
 
 pub const DATA_LENGTH: u8 = 1;
@@ -45,7 +46,7 @@ pub const SORT_LENGTH: u8 = 6;
 pub fn word(table: &[u16], i: usize) -> u16
     ensures { result ≡ word table.now i }
 {
-    if i < table.len() { table[i] } else { 0 }
+    table.get(i).copied().unwrap_or(0)
 }
 
 // Word `w` of the type in row `i`.
@@ -63,20 +64,14 @@ pub fn chain_word(table: &[u16], j: u16, w: u8) -> u16
     word(table, 3 + 8 * types + 7 * (j as usize) + w as usize)
 }
 
-// The row of a type number, or how many rows there are where none has it.
+// The row of a type number, or how many rows there are where none has it: `row` says so, and `kind_word` reads the word there.
 pub fn row_of(table: &[u16], number: u16) -> u16
     ensures { result ≡ row table.now number }
 {
-    let mut i: u16 = 0;
-    let mut left = word(table, TYPES);
-    while 0 < left {
-        if type_word(table, i, NUMBER) == number {
-            return i;
-        }
-        i += 1;
-        left -= 1;
-    }
-    i
+    let types = word(table, TYPES);
+    (0..types)
+        .find(|&i| type_word(table, i, NUMBER) == number)
+        .unwrap_or(types)
 }
 
 // Word `w` of the row of a type number.
@@ -86,41 +81,38 @@ pub fn kind_word(table: &[u16], number: u16, w: u8) -> u16
     type_word(table, row_of(table, number), w)
 }
 
+#[tactic(auto, unfolding(ledger::specs::Table::defined))]
 pub fn is_defined(table: &[u16], number: u16) -> bool
     ensures { result ≡ defined table.now number }
 {
-    let i = row_of(table, number);
-    let types = word(table, TYPES);
-    i < types
+    row_of(table, number) < word(table, TYPES)
 }
 
+#[tactic(auto, unfolding(ledger::specs::Table::calculated))]
 pub fn is_calculated(table: &[u16], number: u16) -> bool
     ensures { result ≡ calculated table.now number }
 {
-    let class = kind_word(table, number, CLASS);
-    class == 2
+    kind_word(table, number, CLASS) == 2
 }
 
 // Whether a type is a chain's master, its detail, one of them.
+#[tactic(auto, unfolding(ledger::specs::Table::is_master))]
 pub fn is_master(table: &[u16], j: u16, number: u16) -> bool
     ensures { result ≡ is_master table.now j number }
 {
-    let master = chain_word(table, j, MASTER_TYPE);
-    master == number
+    chain_word(table, j, MASTER_TYPE) == number
 }
 
+#[tactic(auto, unfolding(ledger::specs::Table::is_detail))]
 pub fn is_detail(table: &[u16], j: u16, number: u16) -> bool
     ensures { result ≡ is_detail table.now j number }
 {
-    let detail = chain_word(table, j, DETAIL_TYPE);
-    detail == number
+    chain_word(table, j, DETAIL_TYPE) == number
 }
 
+#[tactic(auto, unfolding(ledger::specs::Table::in_chain))]
 pub fn in_chain(table: &[u16], j: u16, number: u16) -> bool
     ensures { result ≡ in_chain table.now j number }
 {
-    if is_master(table, j, number) {
-        return true;
-    }
-    is_detail(table, j, number)
+    is_master(table, j, number) || is_detail(table, j, number)
 }

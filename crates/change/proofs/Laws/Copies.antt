@@ -1,23 +1,23 @@
 -- Longer runs of bytes written by place.
-use Prim.Native.Nat.{ℕ, suc, ◌+◌, ◌-◌, ◌<◌, ◌≤◌}
+use Prim.Native.Nat.{ℕ, suc, ◌/◌, ◌%◌, ◌^◌, ◌+◌, ◌-◌, ◌<◌, ◌≤◌}
 use mathlib.Core.Path.{◌≡◌, refl, sym, ◌∙◌}
 use mathlib.Core.List.{List, [], ◌∷◌}
 use native.Mathlib.Omega.{arith}
 use native.Mathlib.Numerals.{add-one}
 use native.Mathlib.Nat.{add-zero}
-use lib.ListN.{length, get_or, set, drop, length-set, drop_of_length-le}
-use lib.Seq.{set_out, drop-cons}
+use lib.ListN.{length, get_or, set, drop, drop_of_length-le}
+use lib.Seq.{drop-cons}
 use Rattle.model.specs.Moves.{two_put, part_put}
 
--- past the end nothing is written
-pub two_put_past : (f : List ℕ) (i v : ℕ) → length f ≤ i → two_put f i v ≡ f
-unfolding two_put
-two_put_past f i v h = set_out _ (i + 1) _ (simp length-set (omega arith)) ∙ set_out f i _ h
+pub use Rattle.page.proofs.Laws.Writes.{part_put_past}
 
-pub part_put_past : (f : List ℕ) (at : ℕ) (d : List ℕ) → length f ≤ at → part_put f at d ≡ f
-unfolding part_put
-part_put_past f at [] h = refl
-part_put_past f at (b ∷ d) h = rw (set_out f at b h) (part_put_past f _ d (omega arith))
+-- put_two
+pub two_put-part : (f d : List ℕ) (i v : ℕ) → d ≡ v / 256 ^ 1 % 256 ∷ v % 256 ∷ [] → two_put f i v ≡ part_put f i d
+unfolding two_put part_put
+two_put-part f d i v e =
+    let a : v / 256 % 256 ≡ v / 256 ^ 1 % 256 = omega arith in
+    let j : i + 1 ≡ suc i = omega arith in
+    rw (e, a, j) refl
 
 -- put_part: what is left to put once i bytes of d are
 unfoldable pub part_from : List ℕ → ℕ → List ℕ → ℕ → List ℕ

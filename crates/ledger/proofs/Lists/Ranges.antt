@@ -54,3 +54,7 @@ module _ {F : Type 0} {g : Mut F (ℕ × Unit {0}) Bool} {s : Range ℕ} {f : F}
 module _ {F : Type 0} {g : Mut F (Bor ℕ × Unit {0}) Bool} {s : Range ℕ} {f : F} (p : ℕ → Bool) (u : Range ℕ) (a b n : ℕ) (r : Option ℕ) (l : 0 < a) (es : s ≡ record { start = a; end = b }) (en : b - a ≡ n) where
   pub first_from_range : (xs : List ℕ) × (j : F) × YieldsThen nat_range_steps s xs r u × FoldsTo (λ q x h. CalledAt g q x false h) f xs j × MatchOption r ⊤ (λ x. (h : F) × CalledAt g j x true h) → ((x : ℕ) (t : Bool) (q : F) → CalledAt g f x t q → (q ≡ f) × (t ≡ p x)) → r ≡ or_none (first_of p (run a n))
   first_from_range ran calls = rw (← find_as_first p a n l, ← range_as_run a n) (option_map_plain r (find_from_yields_List p u f r ran (YieldsList-from_range a b n es en) calls))
+
+module _ {F : Type 0} {g : Mut F (Bor ℕ × Unit {0}) Bool} {s : Range ℕ} {f : F} (p : ℕ → Bool) (u : Range ℕ) (a b n : ℕ) (r : Option ℕ) (es : s ≡ record { start = a; end = b }) (en : b - a ≡ n) where
+  pub find_from_range : (xs : List ℕ) × (j : F) × YieldsThen nat_range_steps s xs r u × FoldsTo (λ q x h. CalledAt g q x false h) f xs j × MatchOption r ⊤ (λ x. (h : F) × CalledAt g j x true h) → ((x : ℕ) (t : Bool) (q : F) → CalledAt g f x t q → (q ≡ f) × (t ≡ p x)) → r ≡ find p (run a n)
+  find_from_range ran calls = rw (← range_as_run a n) (option_map_plain r (find_from_yields_List p u f r ran (YieldsList-from_range a b n es en) calls))

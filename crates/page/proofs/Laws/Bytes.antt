@@ -1,39 +1,62 @@
 -- Bytes read by place.
-use Rattle.std.proofs.Common.{◌≡◌, ℕ, ◌+◌, ◌-◌, ◌≤◌, List, length, get_or, take, drop, sym, arith, length-drop, drop_of_length-le, take_all}
+use Rattle.std.proofs.Common.{◌≡◌, ℕ, ◌+◌, ◌<◌, ◌≤◌, List, [], ◌∷◌, length, get_or, drop, refl, arith, add_assoc, add-zero}
+use Rattle.std.specs.Int.{w16, w32, w64, from_be_bytes}
 use lib.ListN.{get_or-eq_default}
-use lib.Seq.{take-nil, drop-length}
-use Rattle.ledger.specs.Numbers.{part}
-use Rattle.ledger.specs.Bytes.{two_at, three_at}
+use lib.Seq.{get_or-drop}
+use Rattle.ledger.specs.Bytes.{two_at, three_at, size_at, line_at}
+use Rattle.model.specs.Room.{flags_at}
 
 -- past the end every number is 0
 byte_out : (f : List ℕ) (i : ℕ) → length f ≤ i → get_or f i 0 ≡ 0
 byte_out f i h = get_or-eq_default f 0 h
 
-pub byte_past : (f : List ℕ) (i : ℕ) → length f ≤ i → 0 ≡ get_or f i 0
-byte_past f i h = sym (byte_out f i h)
-
 pub two_past : (f : List ℕ) (i : ℕ) → length f ≤ i → 0 ≡ two_at f i
 unfolding two_at
 two_past f i h = omega (arith, byte_out f i h, byte_out f (i + 1) (omega arith))
 
-pub three_past : (f : List ℕ) (i : ℕ) → length f ≤ i → 0 ≡ three_at f i
+-- numbers in the bytes from o on
+pub two-drop : (f : List ℕ) (o k : ℕ) → two_at (drop o f) k ≡ two_at f (o + k)
+unfolding two_at
+two-drop f o k = rw (get_or-drop o f k 0, get_or-drop o f (k + 1) 0, add_assoc o k 1) refl
+
+pub three-drop : (f : List ℕ) (o k : ℕ) → three_at (drop o f) k ≡ three_at f (o + k)
 unfolding three_at
-three_past f i h = omega (arith, byte_out f i h, byte_out f (i + 1) (omega arith), byte_out f (i + 2) (omega arith))
+three-drop f o k = rw (get_or-drop o f k 0, get_or-drop o f (k + 1) 0, get_or-drop o f (k + 2) 0, add_assoc o k 1, add_assoc o k 2) refl
 
--- three_off
-pub three_past_start : (f : List ℕ) (o k : ℕ) → length f ≤ o → 0 ≡ three_at f (o + k)
-three_past_start f o k h = three_past f (o + k) (omega arith)
+pub size-drop : (f : List ℕ) (at : ℕ) → two_at (drop at f) 2 ≡ size_at f at
+unfolding size_at
+size-drop f at = two-drop f at 2
 
-pub three_past_by : (f : List ℕ) (o k : ℕ) → length f - o ≤ k → 0 ≡ three_at f (o + k)
-three_past_by f o k h = three_past f (o + k) (omega arith)
+pub line-drop : (f : List ℕ) (at : ℕ) → get_or (drop at f) 4 0 ≡ line_at f at
+unfolding line_at
+line-drop f at = get_or-drop at f 4 0
 
--- part_of; what is lent is a part by its start and end
-module _ (f : List ℕ) (at n : ℕ) where
-  pub part_past : length f ≤ at → take (length f - length f) (drop (length f) f) ≡ part at n f
-  part_past h = rw (drop-length, drop_of_length-le f h, take-nil, take-nil)
+-- the bytes that `bytes_at` gives
+module _ (f bs : List ℕ) (i n : ℕ) where
+  pub two_from_bytes : ((k : ℕ) → k < 2 → get_or bs k 0 ≡ get_or f (i + k) 0) → n ≡ from_be_bytes w16 bs → n ≡ two_at f i
+  unfolding two_at
+  two_from_bytes at e =
+      let a : get_or bs 0 0 ≡ get_or f i 0 = rw add-zero at (at 0 (omega arith)) in
+      let b : get_or bs 1 0 ≡ get_or f (i + 1) 0 = at 1 (omega arith) in
+      omega arith
 
-  pub part_rest : length f - at ≤ n → take (length f - at) (drop at f) ≡ part at n f
-  part_rest h = rw (take_all (length f - at) (drop at f) (rw (length-drop at f) (omega arith)), take_all n (drop at f) (rw (length-drop at f) h))
+  pub three_from_bytes : ((k : ℕ) → k < 3 → get_or bs k 0 ≡ get_or f (i + k) 0) → n ≡ from_be_bytes w32 (0 ∷ get_or bs 0 0 ∷ get_or bs 1 0 ∷ get_or bs 2 0 ∷ []) → n ≡ three_at f i
+  unfolding three_at
+  three_from_bytes at e =
+      let a : get_or bs 0 0 ≡ get_or f i 0 = rw add-zero at (at 0 (omega arith)) in
+      let b : get_or bs 1 0 ≡ get_or f (i + 1) 0 = at 1 (omega arith) in
+      let c : get_or bs 2 0 ≡ get_or f (i + 2) 0 = at 2 (omega arith) in
+      omega arith
 
-  pub part_whole : take (at + n - at) (drop at f) ≡ part at n f
-  part_whole = let e : at + n - at ≡ n = omega arith in rw e
+pub flags_from_bytes : (f bs : List ℕ) (n : ℕ) → ((k : ℕ) → k < 8 → get_or bs k 0 ≡ get_or f (5 + k) 0) → n ≡ from_be_bytes w64 bs → n ≡ flags_at f
+unfolding flags_at two_at
+flags_from_bytes f bs n at e =
+    let a : get_or bs 0 0 ≡ get_or f 5 0 = at 0 (omega arith) in
+    let b : get_or bs 1 0 ≡ get_or f 6 0 = at 1 (omega arith) in
+    let c : get_or bs 2 0 ≡ get_or f 7 0 = at 2 (omega arith) in
+    let d : get_or bs 3 0 ≡ get_or f 8 0 = at 3 (omega arith) in
+    let p : get_or bs 4 0 ≡ get_or f 9 0 = at 4 (omega arith) in
+    let q : get_or bs 5 0 ≡ get_or f 10 0 = at 5 (omega arith) in
+    let r : get_or bs 6 0 ≡ get_or f 11 0 = at 6 (omega arith) in
+    let s : get_or bs 7 0 ≡ get_or f 12 0 = at 7 (omega arith) in
+    omega arith

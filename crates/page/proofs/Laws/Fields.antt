@@ -1,21 +1,40 @@
--- A record's data.
-use Rattle.std.proofs.Common.{◌≡◌, ℕ, ◌+◌, List, length, drop, arith, length-drop, take_all, drop-drop, eq-eqb, ne_eqb}
-use Rattle.ledger.specs.Numbers.{part}
+-- A record's fields.
+use Rattle.std.proofs.Common.{◌≡◌, refl, sym, ℕ, ◌+◌, Option, Some, None, List, [], eq-eqb, ne_eqb}
+use Rattle.ledger.specs.Numbers.{part, or_none}
+use Rattle.ledger.specs.Bytes.{two_at, three_at}
+use Rattle.ledger.proofs.Lists.Nones.{zero_of_none, value_of_some, some_not_zero}
 use Rattle.ledger.specs.Table.{row, data_len}
-use Rattle.model.specs.Reads.{place_in, kind_from, kind_in, data_in}
+use Rattle.model.specs.Reads.{place_in, kind_from, link_from, kind_in, data_in}
 
--- part_off
-pub part_of_rest : (f g r : List ℕ) (o k n : ℕ) → g ≡ part o (length f) f → r ≡ part k n g → r ≡ part (o + k) n f
-part_of_rest f g r o k n eg er =
-    let all : part o (length f) f ≡ drop o f = take_all (length f) (drop o f) (rw (length-drop o f) (omega arith)) in
-    rw (← drop-drop k o f, ← all, ← eg) er
+-- A record looked up; o is what `find` gives
+module _ (f : List ℕ) (c : ℕ) (o : Option ℕ) (eo : o ≡ or_none (place_in f c)) where
+  pub kind_none : o ≡ None → 0 ≡ kind_in f c
+  unfolding kind_in kind_from
+  kind_none h = rw (eq-eqb (place_in f c) 0 (zero_of_none _ eo h)) refl
 
--- data_of
-module _ (t f r : List ℕ) (c o : ℕ) (eo : o ≡ place_in f c) where
-  pub data_none : o ≡ 0 → r ≡ part 0 0 f → r ≡ data_in t f c
+  pub link_none : (k : ℕ) → o ≡ None → 0 ≡ link_from f (place_in f c) k
+  unfolding link_from
+  link_none k h = rw (eq-eqb (place_in f c) 0 (zero_of_none _ eo h)) refl
+
+  pub data_none : (t : List ℕ) → o ≡ None → [] ≡ data_in t f c
   unfolding data_in
-  data_none z e = rw (← eo, eq-eqb o 0 z) e
+  data_none t h = rw (eq-eqb (place_in f c) 0 (zero_of_none _ eo h)) refl
 
-  pub data_some : (kind n : ℕ) → (o ≡ 0 → ⊥) → kind ≡ kind_from f o → n ≡ data_len t (row t kind) → r ≡ part (o + 5) n f → r ≡ data_in t f c
-  unfolding data_in kind_in
-  data_some kind n nz ek en e = rw (← eo, ne_eqb o 0 nz, ← ek, ← en) e
+  module _ (at : ℕ) (h : o ≡ Some at) where
+    some : place_in f c ≡ 0 → ⊥
+    some = some_not_zero _ eo h
+
+    here : place_in f c ≡ at
+    here = sym (value_of_some _ eo h)
+
+    pub kind_some : two_at f at ≡ kind_in f c
+    unfolding kind_in kind_from
+    kind_some = rw (ne_eqb (place_in f c) 0 some, here) refl
+
+    pub link_some : (k : ℕ) → three_at f (at + k) ≡ link_from f (place_in f c) k
+    unfolding link_from
+    link_some k = rw (ne_eqb (place_in f c) 0 some, here) refl
+
+    pub data_some : (t : List ℕ) (kind : ℕ) → kind ≡ two_at f at → part (at + 5) (data_len t (row t kind)) f ≡ data_in t f c
+    unfolding data_in
+    data_some t kind ek = rw (ne_eqb (place_in f c) 0 some, ← kind_some, here, ek) refl

@@ -1,39 +1,22 @@
--- A page's lowest free line, and a line's flag.
-use Rattle.std.proofs.Common.{◌≡◌, ℕ, zero, suc, ◌+◌, ◌-◌, ◌%◌, ◌^◌, ◌<◌, ◌≤◌, List, sub-one, arith, eq-eqb, ne_eqb}
-use lib.Pow.{pow-lt}
+-- A page's lowest free line.
+use Rattle.std.proofs.Common.{◌≡◌, ℕ, zero, suc, ◌+◌, ◌<◌, List, arith, eq-eqb, ne_eqb}
 use Rattle.ledger.specs.Bytes.{size_at, line_at}
 use Rattle.model.specs.declared.Gap.{Gap}
 use Rattle.model.specs.Room.{gap_from}
 
--- first_gap
+-- first_gap; n lines are left
 module _ (p : List ℕ) (at line : ℕ) (x : Gap) where
-  pub gap_full : (left : ℕ) → gap_from p at line left ≡ x → left ≤ 0 → ◌≡◌ {A = Gap} (record { line = 0; at = at }) x
+  pub gap_full : (n : ℕ) → gap_from p at line n ≡ x → n ≡ 0 → ◌≡◌ {A = Gap} (record { line = 0; at = at }) x
   unfolding gap_from
   gap_full zero inv h = inv
-  gap_full (suc left) inv h = absurd (omega arith)
+  gap_full (suc n) inv h = absurd (omega arith)
 
-  pub gap_here : (left b : ℕ) → gap_from p at line left ≡ x → 0 < left → b ≡ line_at p at → (b ≡ line → ⊥)
-      → ◌≡◌ {A = Gap} (record { line = line; at = at }) x
+  pub gap_here : (n : ℕ) → gap_from p at line n ≡ x → 0 < n → (line_at p at ≡ line → ⊥) → ◌≡◌ {A = Gap} (record { line = line; at = at }) x
   unfolding gap_from
-  gap_here zero b inv h eb ne = absurd (omega arith)
-  gap_here (suc left) b inv h eb ne = rw (← eb, ne_eqb b line ne) at inv
+  gap_here zero inv h ne = absurd (omega arith)
+  gap_here (suc n) inv h ne = rw (ne_eqb (line_at p at) line ne) at inv
 
-  pub gap_next : (left b s : ℕ) → gap_from p at line left ≡ x → 0 < left → b ≡ line_at p at → b ≡ line → s ≡ size_at p at
-      → gap_from p (at + s) (line + 1) (left - 1) ≡ x
+  pub gap_next : (n m : ℕ) → gap_from p at line n ≡ x → n ≡ suc m → line_at p at ≡ line → gap_from p (at + size_at p at) (line + 1) m ≡ x
   unfolding gap_from
-  gap_next zero b s inv h eb e es = absurd (omega arith)
-  gap_next (suc left) b s inv h eb e es = rw (sub-one, es) (rw (← eb, eq-eqb b line e) at inv)
-
--- bit_of
-pub bit_start : (n : ℕ) → 1 ≡ 2 ^ (n - n)
-bit_start n = let e : n - n ≡ 0 = omega arith in rw e
-
-module _ (line bit left : ℕ) (more : left ≤ line % 64) (inv : bit ≡ 2 ^ (line % 64 - left)) where
-  pub bit_next : (r : ℕ) → 0 < left → r ≡ (bit + bit) % 2 ^ 64 → r ≡ 2 ^ (line % 64 - (left - 1))
-  bit_next r h er =
-      let e : line % 64 - (left - 1) ≡ suc (line % 64 - left) = omega arith in
-      let small : 2 ^ suc (line % 64 - left) < 2 ^ 64 = pow-lt {j = 64} (omega arith) in
-      rw e (omega (arith, small))
-
-  pub bit_end : left ≤ 0 → bit ≡ 2 ^ (line % 64)
-  bit_end h = let e : line % 64 - left ≡ line % 64 = omega arith in rw e at inv
+  gap_next zero m inv h e = absurd (omega arith)
+  gap_next (suc n) m inv h e = let l : m ≡ n = omega arith in rw l (rw (eq-eqb (line_at p at) line e) at inv)

@@ -1,44 +1,20 @@
 -- Records put into a page and taken out; fresh pages.
-use Rattle.std.proofs.Common.{◌≡◌, ℕ, zero, suc, ◌+◌, ◌-◌, ◌*◌, ◌%◌, ◌<◌, ◌≤◌, List, length, get_or, take, drop, set, replicate, sym, refl, ap, ◌∙◌, mod-eq_of_lt, sub-one, arith, drop-drop, le-ltb, lt-ltb, eq-eqb, ne_eqb}
-use native.Mathlib.Nat.{mod-add-mod, add-mod_right}
+use Rattle.std.proofs.Common.{◌≡◌, ◌⊎◌, inl, inr, ℕ, zero, suc, ◌+◌, ◌-◌, ◌*◌, ◌/◌, ◌%◌, ◌^◌, ◌<◌, ◌≤◌, Option, Some, None, List, [], ◌∷◌, length, get_or, take, drop, set, replicate, eqb, sym, refl, ap, ◌∙◌, arith, drop-drop, length-set, le-ltb, lt-ltb, eq-eqb, ne_eqb}
+use Rattle.std.proofs.lemmas.List.{same_lists, get_or_default, get_or-set_other, get_or-set_same, length-replicate}
+use borrow.Author.Tests.{eqb-true, eqb-false}
 use borrow.Rule.Slice.PartMut.{put_mid}
+use lib.Seq.{get_or-drop}
+use Rattle.ledger.specs.Numbers.{or_none}
+use Rattle.ledger.proofs.Lists.Nones.{zero_of_none, value_of_some, some_not_zero}
+use Rattle.ledger.proofs.Lists.Tests.{by_cases}
 use Rattle.model.specs.Reads.{line_in}
-use Rattle.model.specs.Moves.{opened_byte, closed_byte, fill, fill_from, less_by, record_taken, line_taken, page_made, on_page, made_from, file_made}
-use Rattle.page.proofs.Laws.Bytes.{byte_past}
-
--- opened_byte
-module _ (f : List ℕ) (at n i : ℕ) where
-  pub opened_before : (r : ℕ) → i < at → r ≡ get_or f i 0 → r ≡ opened_byte f at n i
-  unfolding opened_byte
-  opened_before r h e = rw (lt-ltb i at h) e
-
-  pub opened_here : at ≤ i → i - at < n → 0 ≡ opened_byte f at n i
-  unfolding opened_byte
-  opened_here h k = rw (le-ltb i at h, lt-ltb (i - at) n k)
-
-  pub opened_after : (r : ℕ) → at ≤ i → n ≤ i - at → r ≡ get_or f (i - n) 0 → r ≡ opened_byte f at n i
-  unfolding opened_byte
-  opened_after r h k e = rw (le-ltb i at h, le-ltb (i - at) n k) e
+use Rattle.model.specs.Moves.{two_put, part_put, fill, fill_from, flags_put, record_taken, line_taken, page_made, on_page, made_from}
 
 -- closed_byte
-module _ (f : List ℕ) (at n i : ℕ) where
-  pub closed_before : (r : ℕ) → i < at → r ≡ get_or f i 0 → r ≡ closed_byte f at n i
-  unfolding closed_byte
-  closed_before r h e = rw (lt-ltb i at h) e
+pub rest_byte : (f : List ℕ) (i n : ℕ) → get_or (drop i f) n 0 ≡ get_or f (i + n) 0
+rest_byte f i n = get_or-drop i f n 0
 
-  module _ (h : at ≤ i) where
-    pub closed_tail : length f - i ≤ n → 0 ≡ closed_byte f at n i
-    unfolding closed_byte
-    closed_tail k = rw (le-ltb i at h) (byte_past f (i + n) (omega arith))
-
-    pub closed_past : (r : ℕ) → length f ≤ i → r ≡ get_or f i 0 → r ≡ closed_byte f at n i
-    closed_past r k e = e ∙ sym (byte_past f i k) ∙ closed_tail (omega arith)
-
-    pub closed_after : (r : ℕ) → r ≡ get_or f (i + n) 0 → r ≡ closed_byte f at n i
-    unfolding closed_byte
-    closed_after r e = rw (le-ltb i at h) e
-
--- opened_page and closed_page
+-- a page filled place by place
 pub fill_first : (g : ℕ → ℕ) → fill_from g (replicate 512 0) 0 512 ≡ fill g
 unfolding fill
 fill_first g = refl
@@ -52,63 +28,93 @@ module _ (g : ℕ → ℕ) (f : List ℕ) (i : ℕ) (x : List ℕ) (inv : fill_f
   unfolding fill_from
   fill_end h = let e : 512 - i ≡ 0 = omega arith in rw e at inv
 
--- the counts of a page with a record less: a is what is read, b what goes, r what wraps back to a
-pub wraps_less : (w a b r x y : ℕ) → (r + y) % w ≡ x → x ≡ a → y ≡ b → r < w → y < w → r ≡ less_by w a b
-unfolding less_by
-wraps_less w a b r x y e ex ey h k =
-    let s : r + y + (w - y) ≡ r + w = omega arith in
-    rw (← ex, ← ey, ← e, mod-add-mod, s, add-mod_right, mod-eq_of_lt h)
+length-fill : (g : ℕ → ℕ) (n i : ℕ) (f : List ℕ) → length (fill_from g f i n) ≡ length f
+unfolding fill_from
+length-fill g zero i f = refl
+length-fill g (suc n) i f = length-fill g n (i + 1) (set f i (g i)) ∙ length-set f i (g i)
 
--- take_line
-module _ (f : List ℕ) (line o : ℕ) (eo : o ≡ line_in f line) where
-  pub line_absent : o ≡ 0 → line_taken f line ≡ f
+fill-below : (g : ℕ → ℕ) (n i k : ℕ) (f : List ℕ) → k < i → get_or (fill_from g f i n) k 0 ≡ get_or f k 0
+unfolding fill_from
+fill-below g zero i k f low = refl
+fill-below g (suc n) i k f low = fill-below g n (i + 1) k (set f i (g i)) (omega arith) ∙ get_or-set_other f i k (g i) 0 (λ z. omega arith)
+
+fill-within : (g : ℕ → ℕ) (n i k : ℕ) (f : List ℕ) → i ≤ k → k < i + n → k < length f → get_or (fill_from g f i n) k 0 ≡ g k
+unfolding fill_from
+fill-within g zero i k f lo hi long = absurd (omega arith)
+fill-within g (suc n) i k f lo hi long = by_cases (eqb k i)
+    (λ e. let z : k ≡ i = eqb-true k i e in rw z (fill-below g n (i + 1) i (set f i (g i)) (omega arith) ∙ get_or-set_same f i (g i) 0 (omega arith)))
+    (λ e. let apart : k ≡ i → ⊥ = eqb-false k i e in fill-within g n (i + 1) k (set f i (g i)) (omega arith) (omega arith) (rw length-set long))
+
+pub fill_made : (g : ℕ → ℕ) (n : ℕ) (ys : List ℕ) → length ys ≡ n → ((k : ℕ) → k < n → get_or ys k 0 ≡ g k) → ys ≡ fill_from g (replicate n 0) 0 n
+fill_made g n ys long at =
+    let zeros : List ℕ = replicate n 0 in
+    let long0 : length zeros ≡ n = length-replicate n 0 in
+    let filled : length (fill_from g zeros 0 n) ≡ n = length-fill g n 0 zeros ∙ long0 in
+    same_lists ys _ (omega arith)
+    (λ k d low.
+    get_or_default ys k d 0 low ∙ at k (omega arith)
+    ∙ sym (fill-within g n 0 k zeros (omega arith) (omega arith) (omega arith))
+    ∙ sym (get_or_default (fill_from g zeros 0 n) k d 0 (omega arith)))
+
+-- put_flags
+pub flags_put-part : (f d : List ℕ) (v : ℕ) → v < 2 ^ 64
+    → d ≡ v / 256 ^ 7 % 256 ∷ v / 256 ^ 6 % 256 ∷ v / 256 ^ 5 % 256 ∷ v / 256 ^ 4 % 256 ∷ v / 256 ^ 3 % 256 ∷ v / 256 ^ 2 % 256 ∷ v / 256 ^ 1 % 256 ∷ v % 256 ∷ []
+    → flags_put f v ≡ part_put f 5 d
+unfolding flags_put two_put part_put
+flags_put-part f d v small e =
+    let a : v / 65536 / 65536 / 65536 / 256 % 256 ≡ v / 256 ^ 7 % 256 = omega arith in
+    let b : v / 65536 / 65536 / 65536 % 256 ≡ v / 256 ^ 6 % 256 = omega arith in
+    let c : v / 65536 / 65536 % 65536 / 256 % 256 ≡ v / 256 ^ 5 % 256 = omega arith in
+    let p : v / 65536 / 65536 % 65536 % 256 ≡ v / 256 ^ 4 % 256 = omega arith in
+    let q : v / 65536 % 65536 / 256 % 256 ≡ v / 256 ^ 3 % 256 = omega arith in
+    let r : v / 65536 % 65536 % 256 ≡ v / 256 ^ 2 % 256 = omega arith in
+    let s : v % 65536 / 256 % 256 ≡ v / 256 ^ 1 % 256 = omega arith in
+    let t : v % 65536 % 256 ≡ v % 256 = omega arith in
+    rw (e, a, b, c, p, q, r, s, t) refl
+
+-- take_line; o is what `find_line` gives
+module _ (f : List ℕ) (line : ℕ) (o : Option ℕ) (eo : o ≡ or_none (line_in f line)) where
+  pub line_free : o ≡ None → line_taken f line ≡ f
   unfolding line_taken
-  line_absent z = rw (← eo, eq-eqb o 0 z)
+  line_free h = rw (eq-eqb (line_in f line) 0 (zero_of_none _ eo h))
 
-  pub line_there : (g : List ℕ) → (o ≡ 0 → ⊥) → record_taken f o ≡ g → line_taken f line ≡ g
+  pub line_used : (at : ℕ) → o ≡ Some at → line_taken f line ≡ record_taken f at
   unfolding line_taken
-  line_there g nz e = rw (← eo, ne_eqb o 0 nz) e
+  line_used at h = let e : line_in f line ≡ at = sym (value_of_some _ eo h) in rw (ne_eqb (line_in f line) 0 (some_not_zero _ eo h), e)
 
--- put_in and take_out: page p is lent, changed by `change`, and put back
+-- put_in and take_out: page p, lent from its start, changed by `change`, and put back
 module _ (change : List ℕ → List ℕ) (f : List ℕ) (p : ℕ) where
-  pub page_zero : p ≡ 0 → on_page change f p ≡ f
+  pub page_off : (p ≡ 0) ⊎ (length f < 512 * (p - 1) + 512) → on_page change f p ≡ f
   unfolding on_page
-  page_zero z = rw (eq-eqb p 0 z)
+  page_off (inl z) = rw (eq-eqb p 0 z)
+  page_off (inr h) = by_cases (eqb p 0)
+      (λ e. rw e)
+      (λ e. rw (e, lt-ltb (length f) (512 * (p - 1) + 512) h))
 
-  module _ (nz : p ≡ 0 → ⊥) where
-    pub page_short : length f < 512 * (p - 1) + 512 → on_page change f p ≡ f
-    unfolding on_page
-    page_short h = rw (ne_eqb p 0 nz, lt-ltb (length f) _ h)
+  pub page_on : (start : ℕ) (g : List ℕ) → start ≡ 512 * (p - 1) → 1 ≤ p → start + 512 ≤ length f → change (take (start + 512 - start) (drop start f)) ≡ g
+      → on_page change f p ≡ put_mid start (start + 512 - start) f g
+  unfolding on_page
+  page_on start g es first fits e =
+      let size : start + 512 - start ≡ 512 = omega arith in
+      rw (← es, ne_eqb p 0 (λ z. omega arith), le-ltb (length f) _ fits, ← e, size, drop-drop)
 
-    pub page_changed : (g : List ℕ) → 512 * (p - 1) + 512 ≤ length f
-        → change (take (512 * (p - 1) + 512 - 512 * (p - 1)) (drop (512 * (p - 1)) f)) ≡ g
-        → on_page change f p ≡ put_mid (512 * (p - 1)) (512 * (p - 1) + 512 - 512 * (p - 1)) f g
-    unfolding on_page
-    page_changed g h e =
-        let size : 512 * (p - 1) + 512 - 512 * (p - 1) ≡ 512 = omega arith in
-        rw (ne_eqb p 0 nz, le-ltb (length f) _ h, ← e, size, drop-drop)
-
--- format_file
-pub made_first : (f : List ℕ) → made_from f 1 128 ≡ file_made f
-unfolding file_made
-made_first f = refl
-
+-- format_file; n pages may follow
 module _ (f : List ℕ) (p : ℕ) (x : List ℕ) where
-  pub made_all : (left : ℕ) → made_from f p left ≡ x → left ≤ 0 → x ≡ f
+  pub made_all : (n : ℕ) → made_from f p n ≡ x → n ≡ 0 → x ≡ f
   unfolding made_from
   made_all zero inv h = sym inv
-  made_all (suc left) inv h = absurd (omega arith)
+  made_all (suc n) inv h = absurd (omega arith)
 
-  pub made_short : (left : ℕ) → made_from f p left ≡ x → length f < 512 * (p - 1) + 512 → x ≡ f
+  pub made_short : (n : ℕ) → made_from f p n ≡ x → length f < 512 * (p - 1) + 512 → x ≡ f
   unfolding made_from
   made_short zero inv h = sym inv
-  made_short (suc left) inv h = sym (rw (lt-ltb (length f) _ h) at inv)
+  made_short (suc n) inv h = sym (rw (lt-ltb (length f) _ h) at inv)
 
-  pub made_next : (left : ℕ) (g : List ℕ) → made_from f p left ≡ x → 0 < left → 1 ≤ p → 512 * (p - 1) + 512 ≤ length f
-      → page_made (take (512 * (p - 1) + 512 - 512 * (p - 1)) (drop (512 * (p - 1)) f)) p ≡ g
-      → made_from (put_mid (512 * (p - 1)) (512 * (p - 1) + 512 - 512 * (p - 1)) f g) (p + 1) (left - 1) ≡ x
+  pub made_next : (n m start : ℕ) (g : List ℕ) → made_from f p n ≡ x → n ≡ suc m → start ≡ 512 * (p - 1) → 1 ≤ p → start + 512 ≤ length f
+      → page_made (take (start + 512 - start) (drop start f)) p ≡ g → made_from (put_mid start (start + 512 - start) f g) (p + 1) m ≡ x
   unfolding made_from
-  made_next zero g inv more first h e = absurd (omega arith)
-  made_next (suc left) g inv more first h e =
-      let turn = page_changed (λ page. page_made page p) f p (λ z. omega arith) g h e in
-      rw (sub-one (suc left)) (ap (λ (k : List ℕ). made_from k (p + 1) left) (sym turn) ∙ (rw (le-ltb (length f) _ h) at inv))
+  made_next zero m start g inv h es first fits e = absurd (omega arith)
+  made_next (suc n) m start g inv h es first fits e =
+      let turn = page_on (λ page. page_made page p) f p start g es first fits e in
+      let l : m ≡ n = omega arith in
+      rw l (ap (λ (k : List ℕ). made_from k (p + 1) n) (sym turn) ∙ (rw (le-ltb (length f) (512 * (p - 1) + 512) (omega arith)) at inv))

@@ -1,0 +1,5 @@
+use Rattle.page.proofs.Laws.Bytes.{three_from_bytes}
+use Rattle.page.proofs.bytes.three_at.Goals as goal
+
+pub returns : goal.returns
+returns c = three_from_bytes _ _ _ _ c.bytes_at.ensures c.from_be_bytes.ensures

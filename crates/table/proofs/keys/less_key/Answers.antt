@@ -1,0 +1,5 @@
+use Rattle.table.proofs.Laws.Keys.{less_from_cmp}
+use Rattle.table.proofs.keys.less_key.Goals as goal
+
+pub returns : goal.returns
+returns c = less_from_cmp _ _ _ c.lt.ensures
