@@ -3,7 +3,6 @@ ghost use Rattle.std.specs.Prelude.{◌≡◌, ℕ};
 ghost use Rattle.ledger.specs.Player.{call_in};
 ghost use Rattle.frames.specs.Calls.{call_with};
 
-use crate::shape;
 use page::bytes;
 
 // A call with its arguments.
@@ -38,12 +37,12 @@ pub fn call_of(frame: &[u8]) -> Call
         0 => Call::Format,
         1 => Call::Store {
             kind,
-            bytes: shape::rest(frame, 3),
+            bytes: bytes::rest_of(frame, 3),
         },
         2 => Call::Direct { code },
         3 => Call::Key {
             kind,
-            key: shape::rest(frame, 3),
+            key: bytes::rest_of(frame, 3),
         },
         4 => Call::Next { chain },
         5 => Call::Prior { chain },
@@ -53,14 +52,14 @@ pub fn call_of(frame: &[u8]) -> Call
             last: bytes::three_at(frame, 4),
         },
         8 => Call::Modify {
-            bytes: shape::rest(frame, 1),
+            bytes: bytes::rest_of(frame, 1),
         },
         9 => Call::Delete,
         10 => Call::Read,
         11 => Call::Current { kind },
         12 => Call::Find {
             chain,
-            key: shape::rest(frame, 2),
+            key: bytes::rest_of(frame, 2),
         },
         13 => Call::Relink {
             chain,

@@ -89,11 +89,9 @@ pub fn decode(line: &[u8], frame: &mut [u8]) -> Option<usize>
 }
 
 // Puts the two digits of a byte into `out` at `at`.
+#[tactic(auto, using(crate::proofs::Laws::Prints::hex_is))]
 pub fn put_hex(out: &mut [u8], at: usize, b: u8)
     ensures { hex_put out.old at b ≡ out.new }
 {
-    if at < out.len() {
-        writes::put_byte(out, at, digit_of(b / 16));
-        writes::put_byte(out, at + 1, digit_of(b));
-    }
+    writes::put_part(out, at, &[digit_of(b / 16), digit_of(b)]);
 }

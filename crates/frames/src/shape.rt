@@ -1,5 +1,5 @@
 // A call as bytes: its number, then types as 2 bytes, chains 1, codes 3, data and keys to the end.
-ghost use Rattle.std.specs.Prelude.{◌≡◌, drop};
+ghost use Rattle.std.specs.Prelude.{◌≡◌};
 ghost use Rattle.ledger.specs.Player.{fewest, is_open, right_count, call_made};
 
 // By number and no method of a kind of call: `right_count` takes any number, also one that no call has.
@@ -44,11 +44,4 @@ pub fn well_made(frame: &[u8]) -> bool
         [] => false,
         [call, arguments @ ..] => right_count(*call, arguments.len()),
     }
-}
-
-// The bytes of a frame from `at` on.
-pub fn rest(frame: &[u8], at: usize) -> &[u8]
-    ensures { result.now ≡ drop at frame.now }
-{
-    frame.get(at..).unwrap_or(&[])
 }

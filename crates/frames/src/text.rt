@@ -15,14 +15,13 @@ const PRINTED: usize = 200;
 pub const LINE_END: u8 = b'\n';
 
 // Prints FF for a bad line.
-#[tactic(auto, unfolding(frames_model::specs::Texts::text_put))]
+#[tactic(auto, unfolding(frames_model::specs::Texts::text_put, model::specs::Moves::part_put))]
 pub fn bad_line(out: &mut [u8]) -> usize
     ensures { text_put out.old (70 ∷ 70 ∷ 10 ∷ []) ≡ (result, out.new) }
 {
-    writes::put_byte(out, 0, b'F');
-    writes::put_byte(out, 1, b'F');
-    writes::put_byte(out, 2, LINE_END);
-    3
+    let line = [b'F', b'F', LINE_END];
+    writes::put_part(out, 0, &line);
+    line.len()
 }
 
 // Prints up to 200 bytes from `at` on; where they end.

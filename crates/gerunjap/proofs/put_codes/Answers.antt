@@ -1,7 +1,6 @@
 use Rattle.std.proofs.Common.{◌≤◌, ◌<◌, ◌+◌, ◌≡◌, length, arith}
 use Rattle.std.proofs.lemmas.Grind.{common_steps}
-use Rattle.gerunjap.proofs.Laws.Lent.{part_put-mid}
-use Rattle.change.proofs.Laws.Copies.{part_put_past}
+use Rattle.page.proofs.Laws.Writes.{part_put-mid, part_put_past}
 use Rattle.gerunjap.proofs.put_codes.Goals as goal
 
 pub returns-then-at-words : goal.returns-then-at-words
