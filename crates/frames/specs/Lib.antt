@@ -1,0 +1,2 @@
+-- A frame's call in the ledger's words.
+pub mod Calls

@@ -1,72 +1,60 @@
 // An answer as a line of text.
 ghost use Rattle.std.specs.Prelude.{◌≡◌, [], ◌∷◌, ◌++◌, take};
 ghost use Rattle.ledger.specs.Player.{printed};
-ghost use Rattle.frames_model.specs.Texts.{four_put, answer_put, data_put, text_put};
+ghost use Rattle.frames_model.specs.Texts.{head_of, bytes_put, text_put};
 
 use crate::hex;
 use ledger::Answer;
-use page::writes;
+use page::{bytes, writes};
 
-// Where an answer's data start, and the last place where two of their digits have room.
+// Where an answer's data start, and how many bytes of them are printed at the most.
 const DATA: u16 = 16;
 
-const LAST_DATA: u16 = 414;
+const PRINTED: usize = 200;
 
-pub const LINE_END: u8 = 10;
+pub const LINE_END: u8 = b'\n';
 
 // Prints FF for a bad line.
+#[tactic(auto, unfolding(frames_model::specs::Texts::text_put, model::specs::Moves::part_put))]
 pub fn bad_line(out: &mut [u8]) -> usize
     ensures { text_put out.old (70 ∷ 70 ∷ 10 ∷ []) ≡ (result, out.new) }
 {
-    writes::put_byte(out, 0, 70);
-    writes::put_byte(out, 1, 70);
-    writes::put_byte(out, 2, LINE_END);
-    3
+    let line = [b'F', b'F', LINE_END];
+    writes::put_part(out, 0, &line);
+    line.len()
 }
 
-// Prints a number in four digits.
-fn put_four(out: &mut [u8], at: u16, v: u16)
-    ensures { four_put out.old at v ≡ out.new }
+// Prints up to 200 bytes from `at` on; where they end.
+fn put_bytes(out: &mut [u8], at: u16, all: &[u8]) -> usize
+    ensures { bytes_put out.old at all.now ≡ (result, out.new) }
 {
-    hex::put_hex(out, at as usize, (v / 256 % 256) as u8);
-    hex::put_hex(out, at as usize + 2, (v % 256) as u8);
-}
-
-// Prints an answer's four numbers.
-fn put_answer(out: &mut [u8], a: Answer)
-    ensures { answer_put out.old a ≡ out.new }
-{
-    hex::put_hex(out, 0, a.code);
-    hex::put_hex(out, 2, (a.reference / 256 / 256 % 256) as u8);
-    hex::put_hex(out, 4, (a.reference / 256 % 256) as u8);
-    hex::put_hex(out, 6, (a.reference % 256) as u8);
-    put_four(out, 8, a.kind);
-    put_four(out, 12, a.count);
-}
-
-// Prints up to 200 bytes of data after the answer; where they end.
-fn put_data(out: &mut [u8], data: &[u8]) -> u16
-    ensures { data_put out.old 16 «data».now ≡ (result, out.new) }
-{
-    let mut at = DATA;
-    let mut i: usize = 0;
-    while i < data.len() {
-        if LAST_DATA < at {
-            return at;
-        }
-        hex::put_hex(out, at as usize, data[i]);
-        at += 2;
-        i += 1;
+    let start = at as usize;
+    let shown = bytes::part_of(all, 0, PRINTED);
+    for (i, b) in shown.iter().enumerate() {
+        hex::put_hex(out, start + 2 * i, *b);
     }
-    at
+    start + 2 * shown.len()
+}
+
+// An answer's four numbers as bytes: code 1, reference code 3, type 2, count 2.
+fn head_of(a: Answer) -> [u8; 8]
+    ensures { result ≡ head_of a }
+{
+    let [_, high, middle, low] = a.reference.to_be_bytes();
+    let [kind_high, kind_low] = a.kind.to_be_bytes();
+    let [count_high, count_low] = a.count.to_be_bytes();
+    [
+        a.code, high, middle, low, kind_high, kind_low, count_high, count_low,
+    ]
 }
 
 // Prints an answer with its data and a line end; how many characters that are.
 pub fn put_line(out: &mut [u8], a: Answer, data: &[u8]) -> usize
     ensures { text_put out.old (printed a (take 200 «data».now) ++ (10 ∷ [])) ≡ (result, out.new) }
 {
-    put_answer(out, a);
-    let end = put_data(out, data) as usize;
+    let head = head_of(a);
+    put_bytes(out, 0, &head);
+    let end = put_bytes(out, DATA, data);
     writes::put_byte(out, end, LINE_END);
     end + 1
 }

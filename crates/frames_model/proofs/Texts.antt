@@ -1,16 +1,17 @@
 -- Text read and written is what "The frame player" says: a line decoded is its frame, an answer put is what it prints.
-use Prim.Native.Nat.{ℕ, zero, suc, ◌+◌, ◌*◌, ◌%◌, ◌≤◌, ◌<◌}
-use mathlib.Core.Path.{◌≡◌, refl, sym, ◌∙◌, ap}
+use Prim.Native.Nat.{ℕ, suc, ◌+◌, ◌*◌, ◌%◌, ◌≤◌, ◌<◌}
+use mathlib.Core.Path.{◌≡◌, refl, ◌∙◌, ap}
 use mathlib.Core.Bool.{Bool, true, false, cond, not, and-false}
 use mathlib.Core.List.{List, [], ◌∷◌, ◌++◌, append_assoc}
 use mathlib.Core.Option.{Option, none, some, map}
+use Rattle.std.proofs.Common.{Some, None}
 use native.Mathlib.Omega.{arith}
 use native.Mathlib.Nat.{add-zero, zero-add}
 use native.Mathlib.Numerals.{add-one}
 use lib.ListN.{length, set, take, drop, length-append, length-set}
 use lib.Seq.{sets, sets-eq, take_all}
 use lib.Dec.{eqb, leb}
-use borrow.Author.Tests.{eq-eqb, ne_eqb, lt-ltb, le-ltb, ltb-true, ltb-false, leb-true, lt-leb}
+use borrow.Author.Tests.{eq-eqb, ne_eqb, ltb-true, ltb-false, leb-true, lt-leb}
 use Rattle.ledger.specs.declared.Answer.{Answer}
 use Rattle.ledger.specs.Numbers.{digits, keep, concat_of}
 use Rattle.ledger.specs.Rules.{between}
@@ -19,8 +20,7 @@ use Rattle.ledger.proofs.Lists.Tests.{by_cases, both}
 use Rattle.ledger.proofs.Lists.Parts.{sets_append}
 use Rattle.ledger.proofs.Lists.Runs.{concat_of_append}
 use Rattle.frames_model.specs.declared.Reading.{Reading}
-use Rattle.frames_model.specs.declared.Decoded.{Decoded}
-use Rattle.frames_model.specs.Texts.{digit_on, step_on, decode_from, decode_on, hex_put, four_put, answer_put, data_put, text_put}
+use Rattle.frames_model.specs.Texts.{Decoded, digit_on, step_on, decode_from, decode_on, head_of, bytes_put, text_put}
 
 -- a text at the front of an output that has room for it: the rest stands
 pub text_put_lem : (out s : List ℕ) → length s ≤ length out → text_put out s ≡ (length s, s ++ drop (length s) out)
@@ -33,38 +33,18 @@ unfolding hex_of concat_of
 length_hex [] = refl
 length_hex (b ∷ bs) = omega (arith, length_hex bs)
 
--- data put from `at` on, as many as go up to place 416
-data_put_lem : (n at : ℕ) (bs out : List ℕ) → at + 2 * n ≡ 416
-    → data_put out at bs ≡ (at + length (hex_of (take n bs)), sets out at (hex_of (take n bs)))
-unfolding data_put hex_put hex_of concat_of
-data_put_lem zero at [] out h = rw (add-zero at)
-data_put_lem zero at (b ∷ bs) out h = rw (lt-ltb 414 at (omega arith), add-zero at)
-data_put_lem (suc n) at [] out h = rw (add-zero at)
-data_put_lem (suc n) at (b ∷ bs) out h =
-    let e : at + 2 ≡ suc (suc at) = omega arith in
-    let f : (l : ℕ) → suc (suc at) + l ≡ at + suc (suc l) = λ l. omega arith in
-    rw (le-ltb 414 at (omega arith), data_put_lem n (at + 2) bs _ (omega arith), e, add-one at, f)
-
--- an answer's numbers put
-abbrev head_of : Answer → List ℕ
-head_of a = a.code ∷ (digits 3 a.reference ++ digits 2 a.kind ++ digits 2 a.count)
-
-answer_put_lem : (out : List ℕ) (a : Answer) → answer_put out a ≡ sets out 0 (hex_of (head_of a))
-unfolding answer_put four_put hex_put hex_of concat_of digits
-answer_put_lem out a = refl
-
 -- an answer, its data and a line end put one after another are one text put
-pub line_put : (out o p : List ℕ) (a : Answer) (bs : List ℕ) (end : ℕ) → answer_put out a ≡ o → data_put o 16 bs ≡ (end, p)
+pub line_put : (out o p : List ℕ) (a : Answer) (head bs : List ℕ) (start end : ℕ) → head ≡ head_of a → bytes_put out 0 head ≡ (start, o) → bytes_put o 16 bs ≡ (end, p)
     → text_put out (printed a (take 200 bs) ++ (10 ∷ [])) ≡ (end + 1, set p end 10)
-unfolding text_put
-line_put out o p a bs end eo ep =
+unfolding text_put bytes_put head_of digits
+line_put out o p a head bs start end eh eo ep =
     let u = hex_of (head_of a) in
     let v = hex_of (take 200 bs) in
     let whole : printed a (take 200 bs) ≡ u ++ v = unfold printed hex_of in concat_of_append _ (head_of a) (take 200 bs) in
-    let q : ◌≡◌ {A = ℕ × List ℕ} (16 + length v, sets (sets out 0 u) 16 v) (end, p) = sym (data_put_lem 200 16 bs (sets out 0 u) refl) ∙ rw (← answer_put_lem out a, eo) ep in
-    let long : length (hex_of (head_of a)) ≡ 16 = length_hex (head_of a) ∙ (unfold digits in refl) in
-    let size : length (u ++ v) ≡ end = length-append u v ∙ rw long (ap (λ (r : ℕ × List ℕ). r.0) q) in
-    let text : sets out 0 (u ++ v) ≡ p = sets_append out 0 u v ∙ rw (zero-add, long) (ap (λ (r : ℕ × List ℕ). r.1) q) in
+    let front : sets out 0 u ≡ o = ap (λ (r : ℕ × List ℕ). r.1) (rw eh at eo) in
+    let long : length u ≡ 16 = length_hex (head_of a) in
+    let size : length (u ++ v) ≡ end = length-append u v ∙ rw (long, length_hex (take 200 bs)) (ap (λ (r : ℕ × List ℕ). r.0) ep) in
+    let text : sets out 0 (u ++ v) ≡ p = sets_append out 0 u v ∙ rw (zero-add, long, front) (ap (λ (r : ℕ × List ℕ). r.1) ep) in
     rw (whole, sets_append out 0 (u ++ v) (10 ∷ []), length-append (u ++ v) (10 ∷ []), text, zero-add, size)
 
 -- for an output that has room, and data of at most 200 bytes: the line stands at its front, and the rest of it stays
@@ -95,16 +75,16 @@ no_digit : (c : ℕ) → (is_digit c ≡ false) → digit_value c ≡ 16
 no_digit c e = omega (arith, digit_small c, ltb-false (digit_value c) 16 e)
 
 -- what reading on from n bytes done, with n bytes in the frame, comes to
-abbrev Reads : Option (List ℕ) → ℕ → List ℕ → Decoded × List ℕ → Type 0
-Reads none n frame r = r.0.ok ≡ false
-Reads (some bs) n frame r = (n + length bs ≤ length frame) × (r ≡ (record { ok = true; count = n + length bs }, sets frame n bs))
+abbrev Reads : Option (List ℕ) → ℕ → List ℕ → Decoded → Type 0
+Reads none n frame r = r.0 ≡ None
+Reads (some bs) n frame r = (n + length bs ≤ length frame) × (r ≡ (Some (n + length bs), sets frame n bs))
 
 -- a state with n bytes done, and one with a first digit a besides
 abbrev even : ℕ → Reading
-even n = record { ok = true; half = false; high = 0; count = n }
+even n = record { high = None; count = n }
 
 abbrev odd : ℕ → ℕ → Reading
-odd n a = record { ok = true; half = true; high = digit_value a; count = n }
+odd n a = record { high = Some (digit_value a); count = n }
 
 abbrev unspaced : List ℕ → List ℕ
 unspaced cs = keep (λ c. not (eqb c 32)) cs
@@ -115,7 +95,7 @@ unfolding pairs_of
 pairs_bad c [] e = refl
 pairs_bad c (b ∷ cs) e = rw e
 
-reads_more : (o : Option (List ℕ)) (b n : ℕ) (frame : List ℕ) (r : Decoded × List ℕ) → Reads o (n + 1) (set frame n b) r
+reads_more : (o : Option (List ℕ)) (b n : ℕ) (frame : List ℕ) (r : Decoded) → Reads o (n + 1) (set frame n b) r
     → Reads (map (λ bs. b ∷ bs) o) n frame r
 reads_more none b n frame r h = h
 reads_more (some bs) b n frame r (fits, h) =
@@ -153,10 +133,10 @@ module _ (line frame : List ℕ) (room : length line ≤ 2 * length frame) where
   unfolding frame_of decode_on
   reads = (reads_from line).0 frame 0 (omega arith)
 
-  pub decode_none : frame_of line ≡ none → (decode_on line frame).0.ok ≡ false
+  pub decode_none : frame_of line ≡ none → (decode_on line frame).0 ≡ None
   decode_none e = rw e at reads
 
-  pub decode_some : (bs : List ℕ) → frame_of line ≡ some bs → decode_on line frame ≡ (record { ok = true; count = length bs }, bs ++ drop (length bs) frame)
+  pub decode_some : (bs : List ℕ) → frame_of line ≡ some bs → decode_on line frame ≡ (Some (length bs), bs ++ drop (length bs) frame)
   decode_some bs e =
       let (fits, h) = rw e at reads in
       h ∙ rw (sets-eq bs frame 0 (omega arith), zero-add)

@@ -12,6 +12,7 @@ use frames::shape;
 use ledger::{Answer, Currency};
 use page::writes;
 
+// The status of a call. A number and no enum: C takes it from gerunjap_call as it is.
 // The frame was answered.
 pub const ANSWERED: u8 = 0;
 
@@ -25,39 +26,31 @@ pub const BAD_LENT: u8 = 2;
 fn code_at(words: &[u32], i: usize) -> u32
     ensures { result ≡ get_or words.now i 0 }
 {
-    if i < words.len() { words[i] } else { 0 }
+    words.get(i).copied().unwrap_or(0)
 }
 
 // Puts codes from `at` on, as far as there is room.
 fn put_codes(words: &mut [u32], at: usize, codes: &[u32])
     ensures { part_put words.old at codes.now ≡ words.new }
 {
-    if words.len() <= at {
-        return;
-    }
-    let mut i: usize = 0;
-    while i < codes.len() {
-        if words.len() - at <= i {
-            return;
-        }
-        words[at + i] = codes[i];
-        i += 1;
+    if at < words.len() {
+        let n = codes.len().min(words.len() - at);
+        words[at..at + n].copy_from_slice(&codes[..n]);
     }
 }
 
 // The sixteen words from `at` on.
+#[tactic(auto, unfolding(gerunjap_model::specs::Lent::sixteen_of))]
 fn sixteen_at(words: &[u32], at: usize) -> [u32; 16]
     ensures { result ≡ sixteen_of words.now at }
 {
-    let mut out = [0u32; 16];
-    if words.len() <= at {
-        return out;
-    }
-    put_codes(&mut out, 0, &words[at..]);
-    out
+    let mut sixteen = [0; 16];
+    put_codes(&mut sixteen, 0, words.get(at..).unwrap_or(&[]));
+    sixteen
 }
 
 // The currency in 33 words.
+#[tactic(auto, unfolding(gerunjap_model::specs::Lent::currency_of))]
 pub fn currency_of(words: &[u32]) -> Currency
     ensures { result ≡ currency_of words.now }
 {
@@ -68,18 +61,17 @@ pub fn currency_of(words: &[u32]) -> Currency
     }
 }
 
+#[tactic(auto, unfolding(gerunjap_model::specs::Lent::currency_put, model::specs::Moves::part_put))]
 pub fn put_currency(words: &mut [u32], cur: Currency)
     ensures { currency_put words.old cur ≡ words.new }
 {
-    let run = [cur.run];
-    let types = cur.types;
-    let chains = cur.chains;
-    put_codes(words, 0, &run);
-    put_codes(words, 1, &types);
-    put_codes(words, 17, &chains);
+    put_codes(words, 0, &[cur.run]);
+    put_codes(words, 1, &cur.types);
+    put_codes(words, 17, &cur.chains);
 }
 
 // Puts an answer into 8 bytes: code 1, reference code 3, type 2, count 2.
+#[tactic(auto, unfolding(gerunjap_model::specs::Lent::answer_put8))]
 pub fn put_answer(out: &mut [u8], a: Answer)
     ensures { answer_put8 out.old a ≡ out.new }
 {
@@ -101,14 +93,13 @@ fn answer_frame(
     ensures { answered currency.old answer.old (play_on table.now file.old (currency_of currency.old) frame.now output.old) ≡ (result, file.new, currency.new, output.new, answer.new) }
 {
     let done = play::play(table, file, currency_of(currency), frame, output);
-    let cur = done.currency;
-    let a = done.answer;
-    put_currency(currency, cur);
-    put_answer(answer, a);
+    put_currency(currency, done.currency);
+    put_answer(answer, done.answer);
     ANSWERED
 }
 
 // Plays one frame on a lent table, file, currency and output, and puts its answer. At any status but ANSWERED nothing is written.
+#[tactic(auto, using(play_laws::proofs::Promises::lent_both), unfolding(gerunjap_model::specs::Lent::call_on))]
 pub fn gerunjap_call(
     table: &[u16],
     file: &mut [u8],
@@ -120,10 +111,7 @@ pub fn gerunjap_call(
     ensures computed { call_on table.now file.old currency.old frame.now output.old answer.old ≡ (result, file.new, currency.new, output.new, answer.new) }
     ensures lends { Lends table.now file.old file.new currency.old currency.new frame.now output.old output.new answer.old answer.new result }
 {
-    if currency.len() != 33 {
-        return BAD_LENT;
-    }
-    if answer.len() < 8 {
+    if currency.len() != 33 || answer.len() < 8 {
         return BAD_LENT;
     }
     if !shape::well_made(frame) {

@@ -4,6 +4,7 @@
 use ledger::{Answer, Currency};
 
 // The state between lines: how many words the table has, 0 before one is accepted, and the currency.
+// A length and no Option: a table of no words is never accepted, and `Buffers.Stands` speaks of the words that the lent buffer holds.
 #[derive(Clone, Copy)]
 pub struct Session {
     pub words: usize,
@@ -26,6 +27,7 @@ pub struct Played {
 }
 
 // Input as it comes: the session, how many bytes of the present line are held, and how many bytes of output are gathered.
+// Lengths beside lent buffers and no Vec: memory is fixed, and a part of a buffer that is lent cannot grow.
 #[derive(Clone, Copy)]
 pub struct Feed {
     pub session: Session,

@@ -1,4 +1,2 @@
--- The laws behind the player's functions: one for each way out and each turn.
+-- The laws behind the player's functions: each turn of a loop.
 pub mod Formats
-pub mod Lines
-pub mod Feeds

@@ -19,70 +19,58 @@ pub const LINE_END: u8 = 10;
 pub fn start() -> Feed
     ensures { (result.session.words ≡ 0) × (result.session.currency ≡ unset) × (result.held ≡ 0) × (result.printed ≡ 0) }
 {
-    let session = format::start();
     Feed {
-        session,
+        session: format::start(),
         held: 0,
         printed: 0,
     }
 }
 
 // Where the output gathered ends after `count` bytes more.
+#[tactic(auto, unfolding(line_model::specs::Feeds::printed_to))]
 fn printed_to(out: &[u8], printed: usize, count: usize) -> usize
     ensures { result ≡ printed_to (length out.now) printed count }
 {
-    if out.len() <= printed {
-        return out.len();
-    }
-    if out.len() - printed <= count {
+    if out.len() <= printed || out.len() - printed <= count {
         return out.len();
     }
     printed + count
 }
 
 // Plays the line that is held; its answer goes to `out` where the output gathered ends.
+#[tactic(auto, unfolding(line_model::specs::Feeds::end_on))]
 pub fn end_line(table: &mut [u16], file: &mut [u8], held: &[u8], feed: Feed, out: &mut [u8]) -> Feed
     ensures { end_on table.old file.old held.now feed out.old ≡ (result, table.new, file.new, out.new) }
 {
-    let n = feed.held;
-    let printed = feed.printed;
-    let session = feed.session;
-    if out.len() < printed {
+    if out.len() < feed.printed {
         return feed;
     }
-    let played = line::play(
-        table,
-        file,
-        session,
-        bytes::part_of(held, 0, n),
-        &mut out[printed..],
-    );
-    let next = played.session;
+    let line = bytes::part_of(held, 0, feed.held);
+    let played = line::play(table, file, feed.session, line, &mut out[feed.printed..]);
     Feed {
-        session: next,
+        session: played.session,
         held: 0,
-        printed: printed_to(out, printed, played.count),
+        printed: printed_to(out, feed.printed, played.count),
     }
 }
 
 // Holds one more byte of a line, as far as there is room.
+#[tactic(auto, unfolding(line_model::specs::Feeds::hold_on))]
 pub fn hold(held: &mut [u8], feed: Feed, b: u8) -> Feed
     ensures { hold_on held.old feed b ≡ (result, held.new) }
 {
-    let n = feed.held;
-    let session = feed.session;
-    if held.len() <= n {
+    if held.len() <= feed.held {
         return feed;
     }
-    held[n] = b;
+    held[feed.held] = b;
     Feed {
-        session,
-        held: n + 1,
-        printed: feed.printed,
+        held: feed.held + 1,
+        ..feed
     }
 }
 
 // Takes one byte of input.
+#[tactic(auto, unfolding(line_model::specs::Feeds::take_on))]
 pub fn take(
     table: &mut [u16],
     file: &mut [u8],

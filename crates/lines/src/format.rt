@@ -2,7 +2,7 @@
 ghost use Rattle.std.specs.Prelude.{◌≡◌, ◌*◌};
 ghost use Rattle.ledger.specs.Table.{pages};
 ghost use Rattle.ledger.specs.Currency.{unset};
-ghost use Rattle.line_model.specs.Formats.{word_in, words_in, words_put, told, format_in, format_under, format_frame};
+ghost use Rattle.line_model.specs.Formats.{word_in, words_in, told, format_in, format_under, format_frame};
 
 use ledger::{Answer, Currency};
 use line_model::{Reply, Session};
@@ -35,6 +35,7 @@ pub fn told(session: Session, answer: Answer) -> Reply
 }
 
 // Word `i` of the table that a frame carries.
+#[tactic(auto, using(page::proofs::Laws::Bytes::two_past), unfolding(line_model::specs::Formats::word_in))]
 fn word_in(frame: &[u8], i: usize) -> u16
     ensures { result ≡ word_in frame.now i }
 {
@@ -48,24 +49,8 @@ fn word_in(frame: &[u8], i: usize) -> u16
 fn take_words(frame: &[u8], fresh: &mut [u16])
     ensures { words_in frame.now fresh.old ≡ fresh.new }
 {
-    let mut i: usize = 0;
-    while i < fresh.len() {
-        fresh[i] = word_in(frame, i);
-        i += 1;
-    }
-}
-
-// Puts words at the front of the table.
-fn put_words(table: &mut [u16], from: &[u16])
-    ensures { words_put table.old from.now ≡ table.new }
-{
-    let mut i: usize = 0;
-    while i < from.len() {
-        if table.len() <= i {
-            return;
-        }
-        table[i] = words::word(from, i);
-        i += 1;
+    for (i, word) in fresh.iter_mut().enumerate() {
+        *word = word_in(frame, i);
     }
 }
 
@@ -77,6 +62,7 @@ pub fn file_bytes(table: &[u16]) -> usize
 }
 
 // Makes a fresh file under the words `fresh`, in as many bytes as they ask.
+#[tactic(auto, unfolding(line_model::specs::Formats::format_in))]
 fn format_file(file: &mut [u8], fresh: &[u16]) -> Answer
     ensures { format_in file.old fresh.now ≡ (result, file.new) }
 {
@@ -87,11 +73,12 @@ fn format_file(file: &mut [u8], fresh: &[u16]) -> Answer
     if file.len() < size {
         return Answer::refused(Answer::BAD_SIZE);
     }
-    let done = calls::format(fresh, &mut file[0..size], Currency::none());
+    let done = calls::format(fresh, &mut file[..size], Currency::none());
     done.answer
 }
 
 // Formats under the words `fresh`, which become the table; refused, all stays as it was.
+#[tactic(auto, using(play_laws::proofs::Words::put_front), unfolding(line_model::specs::Formats::format_under))]
 fn format_under(table: &mut [u16], file: &mut [u8], session: Session, fresh: &[u16]) -> Reply
     ensures { format_under table.old file.old session fresh.now ≡ (result, table.new, file.new) }
 {
@@ -103,7 +90,7 @@ fn format_under(table: &mut [u16], file: &mut [u8], session: Session, fresh: &[u
     if answer.code != 0 {
         return told(session, answer);
     }
-    put_words(table, fresh);
+    table[..n].copy_from_slice(fresh);
     let next = Session {
         words: n,
         currency: Currency::none(),
@@ -112,6 +99,7 @@ fn format_under(table: &mut [u16], file: &mut [u8], session: Session, fresh: &[u
 }
 
 // Plays a frame 00.
+#[tactic(auto, unfolding(line_model::specs::Formats::format_frame))]
 pub fn play_format(table: &mut [u16], file: &mut [u8], session: Session, frame: &[u8]) -> Reply
     ensures { format_frame table.old file.old session frame.now ≡ (result, table.new, file.new) }
 {
@@ -121,5 +109,5 @@ pub fn play_format(table: &mut [u16], file: &mut [u8], session: Session, frame: 
     }
     let mut fresh = [0u16; TABLE];
     take_words(frame, &mut fresh);
-    format_under(table, file, session, &fresh[0..n])
+    format_under(table, file, session, &fresh[..n])
 }

@@ -25,7 +25,7 @@ use Rattle.store_laws.proofs.Checked.{checks_all}
 use Rattle.store_laws.proofs.Looked.{direct_plays, key_plays, next_plays, prior_plays, master_plays, each_plays, current_plays, find_plays, unknown_plays, read_reads}
 use Rattle.store_laws.proofs.Formatted.{format_formats}
 use Rattle.store_laws.proofs.Changed.{store_plays, modify_plays, delete_plays, relink_plays}
-use Rattle.play_model.specs.Plays.{Played, play_on, is_change, change_on, look_on}
+use Rattle.play_model.specs.Plays.{Played, played_on, play_on}
 
 -- a call's number; 14 for any other
 abbrev number : Call → ℕ
@@ -109,7 +109,7 @@ module _ (t f : List ℕ) (cur : Currency) (small : (i : ℕ) → Fits w8 (get_o
 
   -- the calls by their numbers
   formatted : get_or fr 0 0 ≡ 0 → Kept
-  unfolding call_in play_on is_change elem change_on
+  unfolding call_in play_on played_on
   formatted e =
       let m = format_call t f cur in
       let h = format_formats t f cur m.0 m.1 refl in
@@ -121,7 +121,7 @@ module _ (t f : List ℕ) (cur : Currency) (small : (i : ℕ) → Fits w8 (get_o
       } in rw e p
 
   read : get_or fr 0 0 ≡ 10 → Kept
-  unfolding call_in play_on turn
+  unfolding call_in play_on played_on turn
   read e =
       let m = read_call t f cur o in
       let h = read_reads t f cur checks ch o in
@@ -143,7 +143,7 @@ module _ (t f : List ℕ) (cur : Currency) (small : (i : ℕ) → Fits w8 (get_o
   chain = get_or fr 1 0
 
   kept : Kept
-  unfolding call_in play_on is_change elem change_on look_on
+  unfolding call_in play_on played_on
   kept =
       let n = get_or fr 0 0 in
       same_or_not n 0 formatted (λ n0.
@@ -163,7 +163,7 @@ module _ (t f : List ℕ) (cur : Currency) (small : (i : ℕ) → Fits w8 (get_o
       let no : (k : ℕ) → (n ≡ k → ⊥) → eqb n k ≡ false = ne_eqb n in
       looked UNKNOWN _ (unknown_plays t f cur checks ch) refl
       (rw (no 0 n0, no 1 n1, no 2 n2, no 3 n3, no 4 n4, no 5 n5, no 6 n6, no 7 n7, no 8 n8, no 9 n9, no 10 n10, no 11 n11, no 12 n12, no 13 n13))
-      (rw (no 10 n10, no 0 n0, no 1 n1, no 8 n8, no 9 n9, no 13 n13, no 2 n2, no 3 n3, no 4 n4, no 5 n5, no 6 n6, no 7 n7, no 11 n11, no 12 n12))))))))))))))))
+      (rw (no 0 n0, no 1 n1, no 2 n2, no 3 n3, no 4 n4, no 5 n5, no 6 n6, no 7 n7, no 8 n8, no 9 n9, no 10 n10, no 11 n11, no 12 n12, no 13 n13))))))))))))))))
 
   pub play_promised : (r : Outcome) (f' o' : List ℕ) → play_on t f cur fr o ≡ (r, f', o') → Promised (call_in fr (length o)) t f f' o o' cur r
   play_promised r f' o' e = rw e at kept

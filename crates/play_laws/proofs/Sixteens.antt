@@ -27,7 +27,9 @@ use Rattle.delete_model.specs.Deletes.{deleted_with, decided_on, deleted_from, d
 use Rattle.store_model.specs.Checks.{size_refusal, refusal_on}
 use Rattle.store_model.specs.Changes.{Changed, changed_unless, placed_on, store_on, run_arrival, relink_on, modify_on}
 use Rattle.store_model.specs.Calls.{checked, checked_with, format_call, store_call, direct_call, key_call, next_call, prior_call, master_call, each_call, modify_call, delete_call, read_call, current_call, find_call, relink_call, unknown_call}
-use Rattle.play_model.specs.Plays.{Played, is_change, change_on, look_on, play_on}
+use Rattle.play_model.specs.Plays.{Played, played_on, play_on}
+use Rattle.ledger.specs.Calls.{Call, FORMAT, STORE, DIRECT, KEY, NEXT, PRIOR, MASTER, EACH, MODIFY, DELETE, READ, CURRENT, FIND, RELINK, UNKNOWN}
+use Rattle.ledger.specs.Player.{call_in}
 
 pub record Sixteen (cur : Currency) : Type 0 where
   pub types : length cur.types ≡ 16
@@ -114,18 +116,6 @@ module _ (t f : List ℕ) (cur : Currency) (full : Sixteen cur) where
   unfolding along_on
   full_along step j = full_checked _ (full_chain j _ (full_reached _))
 
-  full_looks : (fr : List ℕ) (n : ℕ) → Sixteen (look_on t f cur fr n).currency
-  unfolding look_on direct_call key_call next_call next_on prior_call prior_on master_call master_on each_call each_on current_call find_call unknown_call
-  full_looks fr n =
-      full_cond of_outcome (eqb n 2) (full_checked _ (full_direct _))
-      (full_cond of_outcome (eqb n 3) (full_checked _ (full_key _ _))
-      (full_cond of_outcome (eqb n 4) (full_along next_in _)
-      (full_cond of_outcome (eqb n 5) (full_along before_in _)
-      (full_cond of_outcome (eqb n 6) (full_along master_in _)
-      (full_cond of_outcome (eqb n 7) (full_checked _ (full_direct _))
-      (full_cond of_outcome (eqb n 11) (full_checked _ (full_current _))
-      (full_cond of_outcome (eqb n 12) (full_checked _ (full_find _ _)) (full_checked _ full))))))))
-
   full_read : (b : List ℕ) → Sixteen (of_changed (read_call t f cur b))
   unfolding read_call read_on
   full_read b =
@@ -162,17 +152,25 @@ module _ (t f : List ℕ) (cur : Currency) (full : Sixteen cur) where
   unfolding format_call
   full_format = full_unless (size_refusal t f) f _ (record { types = refl; chains = refl })
 
-  full_changes : (fr : List ℕ) (n : ℕ) → Sixteen (of_changed (change_on t f cur fr n))
-  unfolding change_on
-  full_changes fr n =
-      full_cond of_changed (eqb n 0) full_format
-      (full_cond of_changed (eqb n 1) (full_store (two_at fr 1) (drop 3 fr))
-      (full_cond of_changed (eqb n 8) (full_modify (drop 1 fr))
-      (full_cond of_changed (eqb n 9) full_delete (full_relink (get_or fr 1 0) (three_at fr 2)))))
+  full_played : (o : List ℕ) (c : Call) → Sixteen (played_on t f cur o c).0.currency
+  unfolding played_on direct_call key_call next_call next_on prior_call prior_on master_call master_on each_call each_on current_call find_call unknown_call
+  full_played o FORMAT = full_format
+  full_played o (STORE n d) = full_store n d
+  full_played o (DIRECT x) = full_checked _ (full_direct x)
+  full_played o (KEY n k) = full_checked _ (full_key n k)
+  full_played o (NEXT j) = full_along next_in j
+  full_played o (PRIOR j) = full_along before_in j
+  full_played o (MASTER j) = full_along master_in j
+  full_played o (EACH x y) = full_checked _ (full_direct _)
+  full_played o (MODIFY d) = full_modify d
+  full_played o DELETE = full_delete
+  full_played o (READ room) = full_read o
+  full_played o (CURRENT n) = full_checked _ (full_current n)
+  full_played o (FIND j k) = full_checked _ (full_find j k)
+  full_played o (RELINK j m) = full_relink j m
+  full_played o UNKNOWN = full_checked _ full
 
   -- a frame played
   pub play_sixteen : (fr o : List ℕ) → Sixteen (play_on t f cur fr o).0.currency
   unfolding play_on
-  play_sixteen fr o =
-      full_cond of_played (eqb (get_or fr 0 0) 10) (full_read o)
-      (full_cond of_played (is_change (get_or fr 0 0)) (full_changes fr (get_or fr 0 0)) (full_looks fr (get_or fr 0 0)))
+  play_sixteen fr o = full_played o (call_in fr (length o))

@@ -1,9 +1,9 @@
 -- The table's words out of a frame, and into the player's buffers.
 use Prim.Native.Nat.{ℕ, zero, suc, ◌+◌, ◌*◌, ◌/◌, ◌≤◌, ◌<◌}
 use mathlib.Core.Path.{◌≡◌, refl, sym, ◌∙◌}
-use mathlib.Core.List.{List, [], ◌∷◌}
+use mathlib.Core.List.{List, [], ◌∷◌, ◌++◌}
 use native.Mathlib.Omega.{arith}
-use lib.ListN.{length, get_or, set, take, drop, replicate, length-set, length-append, length-drop}
+use lib.ListN.{length, get_or, set, take, drop, replicate, length-set, length-append, length-drop, take-append-drop}
 use lib.Seq.{get_or-set_same, get_or-set_other, get_or-take, get_or-drop, ext_get_or, length-take-le, take_at}
 use borrow.Rule.Slice.PartMut.{put_mid}
 use Rattle.ledger.specs.Numbers.{part}
@@ -31,6 +31,11 @@ module _ (g : ℕ → ℕ) where
       (λ e. fill_before (set ws i (g i)) (i + 1) k j (omega arith) ∙ rw e (get_or-set_same ws i (g i) 0 (rw e at room)))
       (λ n. fill_at (set ws i (g i)) (i + 1) k j (omega arith) (omega arith) (rw length-set room))
 
+  fill_after : (ws : List ℕ) (i k j : ℕ) → i + k ≤ j → get_or (fill_from g ws i k) j 0 ≡ get_or ws j 0
+  unfolding fill_from
+  fill_after ws i zero j h = refl
+  fill_after ws i (suc k) j h = fill_after (set ws i (g i)) (i + 1) k j (omega arith) ∙ get_or-set_other ws i j (g i) 0 (λ e. omega arith)
+
   filled_part : (ws vs : List ℕ) (k : ℕ) → length vs ≤ k → k ≤ length ws → ((j : ℕ) → j < length vs → get_or vs j 0 ≡ g j)
       → part 0 (length vs) (filled g ws k) ≡ vs
   unfolding filled
@@ -48,6 +53,16 @@ put_part t ws h = filled_part (λ i. get_or ws i 0) t ws (length ws) (omega arit
 pub length_put : (t ws : List ℕ) → length (words_put t ws) ≡ length t
 unfolding words_put filled
 length_put t ws = length_fill (λ i. get_or ws i 0) t 0 (length ws)
+
+pub put_front : (t ws : List ℕ) → length ws ≤ length t → words_put t ws ≡ ws ++ drop (length ws) t
+unfolding words_put filled
+put_front t ws h =
+    let n = length ws in
+    let rest : drop n (words_put t ws) ≡ drop n t = ext_get_or 0 _ _ (rw (length-drop, length-drop, length_put t ws)) (λ j lt. after j) in
+    sym (take-append-drop n (words_put t ws)) ∙ rw (put_part t ws h, rest)
+  where
+    after : (j : ℕ) → get_or (drop (length ws) (words_put t ws)) j 0 ≡ get_or (drop (length ws) t) j 0
+    after j = get_or-drop (length ws) _ j 0 ∙ fill_after (λ i. get_or ws i 0) t 0 (length ws) (length ws + j) (omega arith) ∙ sym (get_or-drop (length ws) t j 0)
 
 -- the words of bytes
 pub length_table : (bs : List ℕ) → length (table_in bs) ≡ length bs / 2

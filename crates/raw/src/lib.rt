@@ -1,90 +1,51 @@
 // For measuring only: calls on lent memory without refusals 1 to 4, and these refusals alone. No host should link it for its work.
 #![tactic(auto)]
 
-ghost use Rattle.std.specs.Prelude.{◌≡◌};
-ghost use Rattle.raw_model.specs.Raws.{check_on, raw_change_on, raw_look_on, raw_play_on, raw_on};
+ghost use Rattle.std.specs.Prelude.{◌≡◌, length};
+ghost use Rattle.frames.specs.Calls.{call_with};
+ghost use Rattle.raw_model.specs.Raws.{check_on, raw_played_on, raw_play_on, raw_on};
 
-use frames::shape;
+use frames::call::Call;
+use frames::{call, shape};
 use ledger::{Answer, Currency, Outcome};
 use looks::calls;
-use page::bytes;
 use store::{changes, checks};
 
-// The currency has not 33 words.
+// The currency has not 33 words. A number and no enum, as all that gerunjap_check answers: C takes it as it is.
 pub const BAD_CURRENCY: u8 = 255;
 
-// Plays a call that changes the file.
-fn play_change(table: &[u16], file: &mut [u8], cur: Currency, frame: &[u8], call: u8) -> Outcome
-    ensures { raw_change_on table.now file.old cur frame.now call ≡ (result, file.new) }
+// Makes a call.
+#[tactic(auto, unfolding(raw_model::specs::Raws::raw_played_on))]
+fn play_call(
+    table: &[u16],
+    file: &mut [u8],
+    cur: Currency,
+    call: Call,
+    output: &mut [u8],
+) -> Outcome
+    ensures { raw_played_on table.now file.old cur output.old (call_with call.entry (length output.old)) ≡ (result, file.new, output.new) }
 {
-    if call == 0 {
-        return store::calls::format(table, file, cur);
+    match call {
+        Call::Format => store::calls::format(table, file, cur),
+        Call::Store { kind, bytes } => changes::store(table, file, cur, kind, bytes),
+        Call::Direct { code } => calls::direct(table, file, cur, code),
+        Call::Key { kind, key } => calls::key(table, file, cur, kind, key),
+        Call::Next { chain } => calls::next(table, file, cur, chain),
+        Call::Prior { chain } => calls::prior(table, file, cur, chain),
+        Call::Master { chain } => calls::master(table, file, cur, chain),
+        Call::Each { first, last } => calls::each(table, file, cur, first, last),
+        Call::Modify { bytes } => changes::modify(table, file, cur, bytes),
+        Call::Delete => deletes::delete(table, file, cur),
+        Call::Read => calls::read(table, file, cur, output),
+        Call::Current { kind } => calls::current(table, file, cur, kind),
+        Call::Find { chain, key } => calls::find(table, file, cur, chain, key),
+        Call::Relink { chain, master } => changes::relink(table, file, cur, chain, master),
+        Call::Unknown => Outcome::refused(Answer::UNKNOWN, cur),
     }
-    if call == 1 {
-        return changes::store(
-            table,
-            file,
-            cur,
-            bytes::two_at(frame, 1),
-            shape::rest(frame, 3),
-        );
-    }
-    if call == 8 {
-        return changes::modify(table, file, cur, shape::rest(frame, 1));
-    }
-    if call == 9 {
-        return deletes::delete(table, file, cur);
-    }
-    changes::relink(
-        table,
-        file,
-        cur,
-        bytes::byte_at(frame, 1) as u16,
-        bytes::three_at(frame, 2),
-    )
-}
-
-// Plays a call that moves about in the file, or one that there is not.
-fn play_look(table: &[u16], file: &[u8], cur: Currency, frame: &[u8], call: u8) -> Outcome
-    ensures { result ≡ raw_look_on table.now file.now cur frame.now call }
-{
-    let chain = bytes::byte_at(frame, 1) as u16;
-    if call == 2 {
-        return calls::direct(table, file, cur, bytes::three_at(frame, 1));
-    }
-    if call == 3 {
-        return calls::key(
-            table,
-            file,
-            cur,
-            bytes::two_at(frame, 1),
-            shape::rest(frame, 3),
-        );
-    }
-    if call == 4 {
-        return calls::next(table, file, cur, chain);
-    }
-    if call == 5 {
-        return calls::prior(table, file, cur, chain);
-    }
-    if call == 6 {
-        return calls::master(table, file, cur, chain);
-    }
-    if call == 7 {
-        let first = bytes::three_at(frame, 1);
-        let last = bytes::three_at(frame, 4);
-        return calls::each(table, file, cur, first, last);
-    }
-    if call == 11 {
-        return calls::current(table, file, cur, bytes::two_at(frame, 1));
-    }
-    if call == 12 {
-        return calls::find(table, file, cur, chain, shape::rest(frame, 2));
-    }
-    Outcome::refused(Answer::UNKNOWN, cur)
 }
 
 // Plays a well-made frame.
+#[tactic(auto, unfolding(raw_model::specs::Raws::raw_play_on))]
 fn play_raw(
     table: &[u16],
     file: &mut [u8],
@@ -94,17 +55,11 @@ fn play_raw(
 ) -> Outcome
     ensures { raw_play_on table.now file.old cur frame.now output.old ≡ (result, file.new, output.new) }
 {
-    let call = bytes::byte_at(frame, 0);
-    if call == 10 {
-        return calls::read(table, file, cur, output);
-    }
-    if play::is_change(call) {
-        return play_change(table, file, cur, frame, call);
-    }
-    play_look(table, file, cur, frame, call)
+    play_call(table, file, cur, call::call_of(frame), output)
 }
 
 // The first of refusals 1 to 4 that is due, or 0.
+#[tactic(auto, unfolding(raw_model::specs::Raws::check_on))]
 pub fn gerunjap_check(table: &[u16], file: &[u8], currency: &[u32]) -> u8
     ensures { result ≡ check_on table.now file.now currency.now }
 {
@@ -115,6 +70,7 @@ pub fn gerunjap_check(table: &[u16], file: &[u8], currency: &[u32]) -> u8
 }
 
 // As gerunjap_call, without refusals 1 to 4 but for FORMAT's. On a file that is not sound it still comes back, but its answer means nothing.
+#[tactic(auto, unfolding(raw_model::specs::Raws::raw_on))]
 pub fn gerunjap_raw(
     table: &[u16],
     file: &mut [u8],
@@ -125,19 +81,14 @@ pub fn gerunjap_raw(
 ) -> u8
     ensures { raw_on table.now file.old currency.old frame.now output.old answer.old ≡ (result, file.new, currency.new, output.new, answer.new) }
 {
-    if currency.len() != 33 {
-        return gerunjap::BAD_LENT;
-    }
-    if answer.len() < 8 {
+    if currency.len() != 33 || answer.len() < 8 {
         return gerunjap::BAD_LENT;
     }
     if !shape::well_made(frame) {
         return gerunjap::ILL_MADE;
     }
     let done = play_raw(table, file, gerunjap::currency_of(currency), frame, output);
-    let cur = done.currency;
-    let a = done.answer;
-    gerunjap::put_currency(currency, cur);
-    gerunjap::put_answer(answer, a);
+    gerunjap::put_currency(currency, done.currency);
+    gerunjap::put_answer(answer, done.answer);
     gerunjap::ANSWERED
 }

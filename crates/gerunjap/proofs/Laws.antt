@@ -1,2 +1,0 @@
--- The laws behind the C interface.
-pub mod Lent

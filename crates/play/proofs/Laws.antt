@@ -1,2 +1,0 @@
--- The laws behind the dispatcher: one for each way out.
-pub mod Plays
