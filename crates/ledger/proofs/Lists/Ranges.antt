@@ -1,6 +1,6 @@
 -- What an iterator's method over a range of numbers gives, in the ledger's words: `all`, `any` and `first_of` over a run.
-use Prim.Native.Nat.{ℕ, zero, suc, ◌-◌, ◌+◌, ◌<◌}
-use Rattle.std.proofs.Common.{◌≡◌, refl, sym, ap, Bool, true, false, cond, not, ◌&&◌, ◌||◌, List, [], ◌∷◌, Option, Some, None, arith, add-one, rules}
+use Prim.Native.Nat.{ℕ, zero, suc, ◌-◌, ◌<◌}
+use Rattle.std.proofs.Common.{◌≡◌, refl, ap, Bool, true, false, cond, List, [], ◌∷◌, Option, Some, None, arith, add-one}
 use Rattle.std.proofs.iter.Yields.{nat_range_steps}
 use Rattle.std.proofs.lemmas.Iterator.{YieldsList-from_range}
 use Rattle.std.proofs.lemmas.Iterator.Search.{all_from_yields_List, any_from_yields_List, find_from_yields_List}
