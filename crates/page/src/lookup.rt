@@ -20,14 +20,22 @@ pub const LAST_HEAD: usize = 508;
 pub fn size_at(f: &[u8], at: usize) -> u16
     ensures { result ≡ size_at f.now at }
 {
-    bytes::two_at(bytes::rest_of(f, at), 2)
+    if at < f.len() {
+        bytes::two_at(f, at + 2)
+    } else {
+        0
+    }
 }
 
 // The line in the head of a record that starts at `at`.
 pub fn line_at(f: &[u8], at: usize) -> u8
     ensures { result ≡ line_at f.now at }
 {
-    bytes::byte_at(bytes::rest_of(f, at), 4)
+    if at < f.len() {
+        bytes::byte_at(f, at + 4)
+    } else {
+        0
+    }
 }
 
 // Where the record of a line starts in a page.

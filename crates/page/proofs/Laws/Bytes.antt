@@ -1,5 +1,5 @@
 -- Bytes read by place.
-use Rattle.std.proofs.Common.{◌≡◌, ◌∙◌, ℕ, ◌+◌, ◌<◌, ◌≤◌, List, [], ◌∷◌, length, get_or, drop, refl, arith, add_assoc, add-zero}
+use Rattle.std.proofs.Common.{◌≡◌, sym, ℕ, ◌+◌, ◌<◌, ◌≤◌, List, [], ◌∷◌, length, get_or, drop, refl, arith, add_assoc}
 use Rattle.std.specs.Int.{w16, w32, w64, from_be_bytes}
 use lib.ListN.{get_or-eq_default}
 use lib.Seq.{get_or-drop}
@@ -14,41 +14,32 @@ pub two_past : (f : List ℕ) (i : ℕ) → length f ≤ i → 0 ≡ two_at f i
 unfolding two_at
 two_past f i h = omega (arith, byte_out f i h, byte_out f (i + 1) (omega arith))
 
--- numbers in the bytes from o on
-pub two-drop : (f : List ℕ) (o k : ℕ) → two_at (drop o f) k ≡ two_at f (o + k)
-unfolding two_at
-two-drop f o k = rw (get_or-drop o f k 0, get_or-drop o f (k + 1) 0, add_assoc o k 1) refl
+pub three_past : (f : List ℕ) (i : ℕ) → length f ≤ i → 0 ≡ three_at f i
+unfolding three_at
+three_past f i h = omega (arith, byte_out f i h, byte_out f (i + 1) (omega arith), byte_out f (i + 2) (omega arith))
 
+pub size_past : (f : List ℕ) (at : ℕ) → length f ≤ at → 0 ≡ size_at f at
+unfolding size_at
+size_past f at h = two_past f (at + 2) (omega arith)
+
+pub line_past : (f : List ℕ) (at : ℕ) → length f ≤ at → 0 ≡ line_at f at
+unfolding line_at
+line_past f at h = sym (byte_out f (at + 4) (omega arith))
+
+-- numbers of bytes that were read
+module _ (f : List ℕ) (i n a b : ℕ) (ea : a ≡ get_or f i 0) (eb : b ≡ get_or f (i + 1) 0) where
+  pub two_from_bytes : n ≡ from_be_bytes w16 (a ∷ b ∷ []) → n ≡ two_at f i
+  unfolding two_at
+  two_from_bytes e = omega arith
+
+  pub three_from_bytes : (c : ℕ) → c ≡ get_or f (i + 2) 0 → n ≡ from_be_bytes w32 (0 ∷ a ∷ b ∷ c ∷ []) → n ≡ three_at f i
+  unfolding three_at
+  three_from_bytes c ec e = omega arith
+
+-- three bytes from o + k on
 pub three-drop : (f : List ℕ) (o k : ℕ) → three_at (drop o f) k ≡ three_at f (o + k)
 unfolding three_at
 three-drop f o k = rw (get_or-drop o f k 0, get_or-drop o f (k + 1) 0, get_or-drop o f (k + 2) 0, add_assoc o k 1, add_assoc o k 2) refl
-
-pub size-drop : (f : List ℕ) (at : ℕ) → two_at (drop at f) 2 ≡ size_at f at
-unfolding size_at
-size-drop f at = two-drop f at 2
-
-pub line-drop : (f : List ℕ) (at : ℕ) → get_or (drop at f) 4 0 ≡ line_at f at
-unfolding line_at
-line-drop f at = get_or-drop at f 4 0
-
-module _ (f rest : List ℕ) (i n a b : ℕ) (er : rest ≡ drop i f) (ea : a ≡ get_or rest 0 0) (eb : b ≡ get_or rest 1 0) where
-  first : a ≡ get_or f i 0
-  first = let e : a ≡ get_or f (i + 0) 0 = ea ∙ rw er (get_or-drop i f 0 0) in rw add-zero at e
-
-  second : b ≡ get_or f (i + 1) 0
-  second = eb ∙ rw er (get_or-drop i f 1 0)
-
-  pub two_from_bytes : n ≡ from_be_bytes w16 (a ∷ b ∷ []) → n ≡ two_at f i
-  unfolding two_at
-  two_from_bytes e = let x = first in let y = second in omega arith
-
-  pub three_from_bytes : (c : ℕ) → c ≡ get_or rest 2 0 → n ≡ from_be_bytes w32 (0 ∷ a ∷ b ∷ c ∷ []) → n ≡ three_at f i
-  unfolding three_at
-  three_from_bytes c ec e =
-      let x = first in
-      let y = second in
-      let z : c ≡ get_or f (i + 2) 0 = ec ∙ rw er (get_or-drop i f 2 0) in
-      omega arith
 
 -- the bytes that `bytes_at` gives
 pub flags_from_bytes : (f bs : List ℕ) (n : ℕ) → ((k : ℕ) → k < 8 → get_or bs k 0 ≡ get_or f (5 + k) 0) → n ≡ from_be_bytes w64 bs → n ≡ flags_at f

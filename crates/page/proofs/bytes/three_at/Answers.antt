@@ -1,5 +1,8 @@
-use Rattle.page.proofs.Laws.Bytes.{three_from_bytes}
+use Rattle.page.proofs.Laws.Bytes.{three_past, three_from_bytes}
 use Rattle.page.proofs.bytes.three_at.Goals as goal
 
-pub returns : goal.returns
-returns c = three_from_bytes _ _ _ _ _ _ c.rest_of-rest.ensures c.byte_at.ensures c.byte_at-2.ensures _ c.byte_at-3.ensures c.from_be_bytes.ensures
+pub returns-then-i-f : goal.returns-then-i-f
+returns-then-i-f c = three_from_bytes _ _ _ _ _ c.byte_at.ensures c.byte_at-then-i-f.ensures _ c.byte_at-then-i-f-2.ensures c.from_be_bytes.ensures
+
+pub returns-else-i-f : goal.returns-else-i-f
+returns-else-i-f c = three_past _ _ c.if-i-f.false

@@ -1,6 +1,10 @@
-use Rattle.std.proofs.Common.{◌∙◌}
-use Rattle.page.proofs.Laws.Bytes.{line-drop}
+use Rattle.ledger.specs.Bytes.{line_at}
+use Rattle.page.proofs.Laws.Bytes.{line_past}
 use Rattle.page.proofs.lookup.line_at.Goals as goal
 
-pub returns : goal.returns
-returns c = c.byte_at.ensures ∙ rw c.rest_of.ensures (line-drop _ _)
+pub returns-then-at-f : goal.returns-then-at-f
+unfolding line_at
+returns-then-at-f c = c.byte_at.ensures
+
+pub returns-else-at-f : goal.returns-else-at-f
+returns-else-at-f c = line_past _ _ c.if-at-f.false
