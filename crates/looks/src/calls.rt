@@ -1,4 +1,6 @@
-// The calls that read, once refusals 1 to 4 are behind them.
+// The calls that read, once refusals 1 to 4 are behind them. Each takes the lent table and file and the currency by value, and no struct of
+// them: the forms that the specification names. Type 0 is that of no record, code 0 in a currency that of no current one: numbers, since
+// the definitions `kind_in` and `Currency` have them so, and the C interface too.
 ghost use Rattle.std.specs.Prelude.{◌≡◌};
 ghost use Rattle.ledger.specs.Numbers.{or_none};
 ghost use Rattle.ledger.specs.Answers.{outcome_of};

@@ -1,4 +1,5 @@
-// The currency: its entries, arrival, and whether it is in force.
+// The currency: its entries, arrival, and whether it is in force. Entries are arrays of sixteen by value, a form that the specification
+// names, and 0 where there is none: the definition of `Currency` and the C interface have no Option.
 ghost use Rattle.std.specs.Prelude.{◌≡◌, ℕ, Bool, get_or, set, eqb};
 ghost use Rattle.ledger.specs.Currency.{type_current, chain_current};
 ghost use Rattle.ledger.specs.Table.{types, chains, number, in_chain};
@@ -94,7 +95,8 @@ fn points(file: &[u8], code: u32) -> bool
     code == 0 || fields::kind_at(file, code) != 0
 }
 
-// What entries stand for: the table's types, by row, or its chains. How many there are, and which types of record suit one.
+// What entries stand for, the table's types by row or its chains: how many there are, and which types of record suit one.
+// A trait and no closure: to call one takes a `requires`, and no function of the project has one.
 trait Rows {
     ghost used: { Self → ℕ };
 

@@ -1,4 +1,5 @@
-// Walks in rings of a sound file. Each has fuel for every code that a file can have.
+// Walks in rings of a sound file. Each has fuel for every code that a file can have. The public ones take the table and the file as the
+// calls lend them, a form that the specification names; within, a `Chain` or a `Calc` holds them.
 #![tactic(auto)]
 
 mod ring;
