@@ -14,7 +14,7 @@ use page::fields;
 use table::order::{Duplicates, Order};
 use table::{keys, words};
 
-pub const FUEL: u16 = 8256;
+pub const FUEL: u16 = model::CODES;
 
 // The master of the ring that holds a record, itself where it is of the chain's master type.
 #[tactic(auto, using(crate::proofs::Laws::master_turn, crate::proofs::Laws::master_end), unfolding(ring_model::specs::Rings::master_in))]
