@@ -1,4 +1,5 @@
 // DELETE: the record and every detail below it are marked, then entries back up, rings close, and pages close up.
+// Table, file and currency stay side by side and no struct: the specification lends a table as a plain `&[u16]`, and hands currency by value.
 #![tactic(auto)]
 
 pub mod closing;

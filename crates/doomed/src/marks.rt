@@ -38,7 +38,7 @@ fn first_in(table: &[u16], file: &[u8], code: u32, kind: u16, j: u16) -> Option<
     Some(next)
 }
 
-// The first detail of `code` in the chains from `j` on where it is master.
+// The first detail of `code` in the chains from `j` on where it is master. At most sixteen are looked at, whatever the table says.
 fn first_below(table: &[u16], file: &[u8], code: u32, kind: u16, j: u16) -> Option<Below>
     ensures { result ≡ first_below_in table.now file.now code kind j }
 {

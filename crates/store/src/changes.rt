@@ -10,6 +10,7 @@ use page::fields;
 use puts::{placing, storing};
 use relinks::relinking;
 
+// STORE
 pub fn store(
     table: &[u16],
     file: &mut [u8],
@@ -33,6 +34,7 @@ fn arrive_at_run(table: &[u16], file: &[u8], cur: Currency) -> Outcome
     currency::arrive_at(table, cur, fields::kind_at(file, run), run, 0)
 }
 
+// RELINK
 pub fn relink(
     table: &[u16],
     file: &mut [u8],
@@ -48,6 +50,7 @@ pub fn relink(
     Ok(done)
 }
 
+// MODIFY
 pub fn modify(
     table: &[u16],
     file: &mut [u8],
