@@ -14,9 +14,8 @@ pub fn format(table: &[u16], file: &mut [u8], cur: Currency) -> Outcome
     ensures back { ComesBack (1 ∷ 2 ∷ []) file.old file.new cur result }
     ensures formats { Formats table.now file.old file.new cur result }
 {
-    let refused = checks::check_size(table, file);
-    if refused != 0 {
-        return Outcome::refused(refused, cur);
+    if let Err(why) = checks::check_size(table, file) {
+        return Outcome::refused(why.code(), cur);
     }
     moves::format_file(file);
     Outcome::done(Answer::done(0, 0, 0), Currency::none())
@@ -28,11 +27,10 @@ pub fn store(table: &[u16], file: &mut [u8], cur: Currency, kind: u16, data: &[u
     ensures back { ComesBack (1 ∷ 2 ∷ 3 ∷ 4 ∷ 5 ∷ 6 ∷ 8 ∷ 10 ∷ 11 ∷ []) file.old file.new cur result }
     ensures plays { Plays (turn_of table.now cur (STORE kind «data».now)) table.now file.old file.new cur result }
 {
-    let refused = checks::check(table, file, cur);
-    if refused != 0 {
-        return Outcome::refused(refused, cur);
+    if let Err(why) = checks::check(table, file, cur) {
+        return Outcome::refused(why.code(), cur);
     }
-    changes::store(table, file, cur, kind, data)
+    Outcome::of(changes::store(table, file, cur, kind, data), cur)
 }
 
 // DIRECT
@@ -41,11 +39,10 @@ pub fn direct(table: &[u16], file: &[u8], cur: Currency, code: u32) -> Outcome
     ensures back { ComesBack (1 ∷ 2 ∷ 3 ∷ 4 ∷ 9 ∷ []) file.now file.now cur result }
     ensures plays { Plays (turn_of table.now cur (DIRECT code)) table.now file.now file.now cur result }
 {
-    let refused = checks::check(table, file, cur);
-    if refused != 0 {
-        return Outcome::refused(refused, cur);
+    if let Err(why) = checks::check(table, file, cur) {
+        return Outcome::refused(why.code(), cur);
     }
-    looks::calls::direct(table, file, cur, code)
+    Outcome::of(looks::calls::direct(table, file, cur, code), cur)
 }
 
 // KEY
@@ -54,11 +51,10 @@ pub fn key(table: &[u16], file: &[u8], cur: Currency, kind: u16, key: &[u8]) -> 
     ensures back { ComesBack (1 ∷ 2 ∷ 3 ∷ 4 ∷ 5 ∷ 7 ∷ 8 ∷ 9 ∷ []) file.now file.now cur result }
     ensures plays { Plays (turn_of table.now cur (KEY kind key.now)) table.now file.now file.now cur result }
 {
-    let refused = checks::check(table, file, cur);
-    if refused != 0 {
-        return Outcome::refused(refused, cur);
+    if let Err(why) = checks::check(table, file, cur) {
+        return Outcome::refused(why.code(), cur);
     }
-    looks::calls::key(table, file, cur, kind, key)
+    Outcome::of(looks::calls::key(table, file, cur, kind, key), cur)
 }
 
 // NEXT
@@ -67,11 +63,10 @@ pub fn next(table: &[u16], file: &[u8], cur: Currency, j: u16) -> Outcome
     ensures back { ComesBack (1 ∷ 2 ∷ 3 ∷ 4 ∷ 5 ∷ 6 ∷ []) file.now file.now cur result }
     ensures plays { Plays (turn_of table.now cur (NEXT j)) table.now file.now file.now cur result }
 {
-    let refused = checks::check(table, file, cur);
-    if refused != 0 {
-        return Outcome::refused(refused, cur);
+    if let Err(why) = checks::check(table, file, cur) {
+        return Outcome::refused(why.code(), cur);
     }
-    looks::calls::next(table, file, cur, j)
+    Outcome::of(looks::calls::next(table, file, cur, j), cur)
 }
 
 // PRIOR
@@ -80,11 +75,10 @@ pub fn prior(table: &[u16], file: &[u8], cur: Currency, j: u16) -> Outcome
     ensures back { ComesBack (1 ∷ 2 ∷ 3 ∷ 4 ∷ 5 ∷ 6 ∷ []) file.now file.now cur result }
     ensures plays { Plays (turn_of table.now cur (PRIOR j)) table.now file.now file.now cur result }
 {
-    let refused = checks::check(table, file, cur);
-    if refused != 0 {
-        return Outcome::refused(refused, cur);
+    if let Err(why) = checks::check(table, file, cur) {
+        return Outcome::refused(why.code(), cur);
     }
-    looks::calls::prior(table, file, cur, j)
+    Outcome::of(looks::calls::prior(table, file, cur, j), cur)
 }
 
 // MASTER
@@ -93,11 +87,10 @@ pub fn master(table: &[u16], file: &[u8], cur: Currency, j: u16) -> Outcome
     ensures back { ComesBack (1 ∷ 2 ∷ 3 ∷ 4 ∷ 5 ∷ 6 ∷ []) file.now file.now cur result }
     ensures plays { Plays (turn_of table.now cur (MASTER j)) table.now file.now file.now cur result }
 {
-    let refused = checks::check(table, file, cur);
-    if refused != 0 {
-        return Outcome::refused(refused, cur);
+    if let Err(why) = checks::check(table, file, cur) {
+        return Outcome::refused(why.code(), cur);
     }
-    looks::calls::master(table, file, cur, j)
+    Outcome::of(looks::calls::master(table, file, cur, j), cur)
 }
 
 // EACH
@@ -106,11 +99,10 @@ pub fn each(table: &[u16], file: &[u8], cur: Currency, first: u32, last: u32) ->
     ensures back { ComesBack (1 ∷ 2 ∷ 3 ∷ 4 ∷ 9 ∷ []) file.now file.now cur result }
     ensures plays { Plays (turn_of table.now cur (EACH first last)) table.now file.now file.now cur result }
 {
-    let refused = checks::check(table, file, cur);
-    if refused != 0 {
-        return Outcome::refused(refused, cur);
+    if let Err(why) = checks::check(table, file, cur) {
+        return Outcome::refused(why.code(), cur);
     }
-    looks::calls::each(table, file, cur, first, last)
+    Outcome::of(looks::calls::each(table, file, cur, first, last), cur)
 }
 
 // MODIFY
@@ -119,11 +111,10 @@ pub fn modify(table: &[u16], file: &mut [u8], cur: Currency, data: &[u8]) -> Out
     ensures back { ComesBack (1 ∷ 2 ∷ 3 ∷ 4 ∷ 6 ∷ 8 ∷ 10 ∷ []) file.old file.new cur result }
     ensures plays { Plays (turn_of table.now cur (MODIFY «data».now)) table.now file.old file.new cur result }
 {
-    let refused = checks::check(table, file, cur);
-    if refused != 0 {
-        return Outcome::refused(refused, cur);
+    if let Err(why) = checks::check(table, file, cur) {
+        return Outcome::refused(why.code(), cur);
     }
-    changes::modify(table, file, cur, data)
+    Outcome::of(changes::modify(table, file, cur, data), cur)
 }
 
 // DELETE
@@ -132,11 +123,10 @@ pub fn delete(table: &[u16], file: &mut [u8], cur: Currency) -> Outcome
     ensures back { ComesBack (1 ∷ 2 ∷ 3 ∷ 4 ∷ 6 ∷ []) file.old file.new cur result }
     ensures plays { Plays (turn_of table.now cur DELETE) table.now file.old file.new cur result }
 {
-    let refused = checks::check(table, file, cur);
-    if refused != 0 {
-        return Outcome::refused(refused, cur);
+    if let Err(why) = checks::check(table, file, cur) {
+        return Outcome::refused(why.code(), cur);
     }
-    deletes::delete(table, file, cur)
+    Outcome::of(deletes::delete(table, file, cur), cur)
 }
 
 // READ: only the front of the output changes.
@@ -145,11 +135,10 @@ pub fn read(table: &[u16], file: &[u8], cur: Currency, output: &mut [u8]) -> Out
     ensures back { ComesBack (1 ∷ 2 ∷ 3 ∷ 4 ∷ 6 ∷ 12 ∷ []) output.old output.new cur result }
     ensures reads { Reads table.now file.now output.old output.new cur result }
 {
-    let refused = checks::check(table, file, cur);
-    if refused != 0 {
-        return Outcome::refused(refused, cur);
+    if let Err(why) = checks::check(table, file, cur) {
+        return Outcome::refused(why.code(), cur);
     }
-    looks::calls::read(table, file, cur, output)
+    Outcome::of(looks::calls::read(table, file, cur, output), cur)
 }
 
 // CURRENT
@@ -158,11 +147,10 @@ pub fn current(table: &[u16], file: &[u8], cur: Currency, kind: u16) -> Outcome
     ensures back { ComesBack (1 ∷ 2 ∷ 3 ∷ 4 ∷ 5 ∷ 6 ∷ []) file.now file.now cur result }
     ensures plays { Plays (turn_of table.now cur (CURRENT kind)) table.now file.now file.now cur result }
 {
-    let refused = checks::check(table, file, cur);
-    if refused != 0 {
-        return Outcome::refused(refused, cur);
+    if let Err(why) = checks::check(table, file, cur) {
+        return Outcome::refused(why.code(), cur);
     }
-    looks::calls::current(table, file, cur, kind)
+    Outcome::of(looks::calls::current(table, file, cur, kind), cur)
 }
 
 // FIND
@@ -171,11 +159,10 @@ pub fn find(table: &[u16], file: &[u8], cur: Currency, j: u16, key: &[u8]) -> Ou
     ensures back { ComesBack (1 ∷ 2 ∷ 3 ∷ 4 ∷ 5 ∷ 6 ∷ 7 ∷ 8 ∷ 9 ∷ []) file.now file.now cur result }
     ensures plays { Plays (turn_of table.now cur (FIND j key.now)) table.now file.now file.now cur result }
 {
-    let refused = checks::check(table, file, cur);
-    if refused != 0 {
-        return Outcome::refused(refused, cur);
+    if let Err(why) = checks::check(table, file, cur) {
+        return Outcome::refused(why.code(), cur);
     }
-    looks::calls::find(table, file, cur, j, key)
+    Outcome::of(looks::calls::find(table, file, cur, j, key), cur)
 }
 
 // RELINK
@@ -184,11 +171,10 @@ pub fn relink(table: &[u16], file: &mut [u8], cur: Currency, j: u16, m: u32) -> 
     ensures back { ComesBack (1 ∷ 2 ∷ 3 ∷ 4 ∷ 5 ∷ 6 ∷ 7 ∷ 9 ∷ 10 ∷ []) file.old file.new cur result }
     ensures plays { Plays (turn_of table.now cur (RELINK j m)) table.now file.old file.new cur result }
 {
-    let refused = checks::check(table, file, cur);
-    if refused != 0 {
-        return Outcome::refused(refused, cur);
+    if let Err(why) = checks::check(table, file, cur) {
+        return Outcome::refused(why.code(), cur);
     }
-    changes::relink(table, file, cur, j, m)
+    Outcome::of(changes::relink(table, file, cur, j, m), cur)
 }
 
 // A call that there is not.
@@ -197,9 +183,8 @@ pub fn unknown(table: &[u16], file: &[u8], cur: Currency) -> Outcome
     ensures back { ComesBack (1 ∷ 2 ∷ 3 ∷ 4 ∷ 5 ∷ []) file.now file.now cur result }
     ensures plays { Plays (turn_of table.now cur UNKNOWN) table.now file.now file.now cur result }
 {
-    let refused = checks::check(table, file, cur);
-    if refused != 0 {
-        return Outcome::refused(refused, cur);
+    if let Err(why) = checks::check(table, file, cur) {
+        return Outcome::refused(why.code(), cur);
     }
     Outcome::refused(Answer::UNKNOWN, cur)
 }
