@@ -1,5 +1,5 @@
 -- The gathered records are the calculated records of the file's codes, each once; and what that says of twins.
-use Prim.Native.Nat.{ℕ, zero, suc, ◌+◌, ◌-◌, ◌*◌, ◌≤◌, ◌<◌}
+use Prim.Native.Nat.{ℕ, zero, suc, ◌+◌, ◌-◌, ◌*◌, ◌%◌, ◌≤◌, ◌<◌}
 use mathlib.Core.Path.{◌≡◌, refl, sym, ◌∙◌, ap}
 use mathlib.Core.Logic.{◌≢◌, inl, inr}
 use mathlib.Core.Bool.{Bool, true, false, not}
@@ -45,25 +45,29 @@ found_line page line n = found 508 page line 63 16 (line_in page line) refl n
 
 module _ (f : List ℕ) (c : ℕ) (some : place_in f c ≢ 0) where
   -- it starts in the code's page, on the code's line
-  place_there : (o : ℕ) × (place_in f c ≡ page_start (page_of c) + o) × (line_at (part (page_start (page_of c)) 512 f) o ≡ line_of c) × (o < 508) × (1 ≤ page_of c)
+  place_there : (o : ℕ) × (place_in f c ≡ page_start (page_of c) + o) × (line_at (part (page_start (page_of c)) 512 f) o ≡ line_of c) × (o < 508) × (1 ≤ page_of c) × (o ≢ 0)
   unfolding place_in
   place_there =
       let o : ℕ = line_in (part (page_start (page_of c)) 512 f) (line_of c) in
       by_cases (eqb (page_of c) 0) (λ a. absurd (some (rw a)))
       (λ a. by_cases (ltb (length f) (page_start (page_of c) + 512)) (λ b. absurd (some (rw (a, b))))
       (λ b. by_cases (eqb o 0) (λ d. absurd (some (rw (a, b, d))))
-      (λ d. let (l, lt) = found_line _ (line_of c) (eqb-false o 0 d) in (o, rw (a, b, d), l, lt, (let nz = eqb-false (page_of c) 0 a in omega arith)))))
+      (λ d. let (l, lt) = found_line _ (line_of c) (eqb-false o 0 d) in (o, rw (a, b, d), l, lt, (let nz = eqb-false (page_of c) 0 a in omega arith), eqb-false o 0 d))))
 
   pub place_code : code_from f (place_in f c) ≡ c
   unfolding code_from line_at
   place_code =
-      let (o, e, l, lt, p) = place_there in
+      let (o, e, l, lt, p, nz) = place_there in
       let k = get_d_part f _ (page_start (page_of c)) 512 (o + 4) refl (omega arith) ∙ l in
       let q : page_start (page_of c) + o + 4 ≡ page_start (page_of c) + (o + 4) = omega arith in
       rw (e, q, k) (omega arith)
 
   pub place_within : place_in f c < 512 * page_of c
-  place_within = let (o, e, l, lt, p) = place_there in rw e (omega arith)
+  place_within = let (o, e, l, lt, p, nz) = place_there in rw e (omega arith)
+
+  -- nor does it start where two bytes would say 0
+  pub place_wraps : place_in f c % 65536 ≢ 0
+  place_wraps = let (o, e, l, lt, p, nz) = place_there in rw e (omega arith)
 
 module _ (t f : List ℕ) where
   -- calculated_at, in a file of at most 128 pages

@@ -14,7 +14,7 @@ use Rattle.ledger.specs.Numbers.{elem, all, pairs}
 use Rattle.ledger.proofs.Lists.Tests.{by_cases, either}
 use Rattle.ledger.proofs.Lists.Members.{elem_nil, elem_append, elem_cases}
 use Rattle.ledger.proofs.Lists.Pairs.{pairs_cons, pairs_head, pairs_tail}
-use Rattle.audit_model.specs.Sorting.{second_first, merged, fitted, half, halves_merged, sorted}
+use Rattle.audit_model.specs.Sorting.{second_first, merged, half, halves_merged, sorted}
 
 -- the same numbers, each as often, in whatever order
 pub data Shuffled : List ℕ → List ℕ → Type 0 where
@@ -74,12 +74,6 @@ shuffled_pairs r sy none = refl
 shuffled_pairs r sy (next x s) = rw (shuffled_all (r x) s, shuffled_pairs r sy s)
 shuffled_pairs r sy (swap x y xs) = rw (sy x y) (exchange (r y x) (all (r x) xs) (all (r y) xs) (pairs r xs))
 shuffled_pairs r sy (onto q s) = shuffled_pairs r sy q ∙ shuffled_pairs r sy s
-
--- a list filled from another
-pub fitted_front : (xs ys : List ℕ) → fitted (length xs) (xs ++ ys) ≡ xs
-unfolding fitted
-fitted_front [] ys = refl
-fitted_front (x ∷ xs) ys = ap (λ (l : List ℕ). x ∷ l) (fitted_front xs ys)
 
 -- merging
 module _ (less : ℕ → ℕ → Bool) where

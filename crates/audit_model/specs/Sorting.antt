@@ -20,10 +20,6 @@ second_first less xs [] = false
 second_first less [] (y ∷ ys) = true
 second_first less (x ∷ xs) (y ∷ ys) = less y x
 
--- the same where i of the first list and k of the second are next
-unfoldable pub takes_second : (ℕ → ℕ → Bool) → List ℕ → ℕ → List ℕ → ℕ → Bool
-takes_second less xs i ys k = second_first less (drop i xs) (drop k ys)
-
 -- n numbers of two lists merged, zeros past their ends
 unfoldable pub merged : (ℕ → ℕ → Bool) → ℕ → List ℕ → List ℕ → List ℕ
 merged less zero xs ys = []
@@ -31,11 +27,6 @@ merged less (suc n) xs ys =
     cond (second_first less xs ys)
     (get_or ys 0 0 ∷ merged less n xs (drop 1 ys))
     (get_or xs 0 0 ∷ merged less n (drop 1 xs) ys)
-
--- n numbers of a list, zeros past its end
-unfoldable pub fitted : ℕ → List ℕ → List ℕ
-fitted zero xs = []
-fitted (suc n) xs = get_or xs 0 0 ∷ fitted n (drop 1 xs)
 
 -- the middle of a list
 unfoldable pub half : List ℕ → ℕ

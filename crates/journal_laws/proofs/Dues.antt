@@ -3,26 +3,27 @@ use Prim.Native.Nat.{ℕ}
 use mathlib.Core.Path.{◌≡◌, refl, ap}
 use mathlib.Core.List.{List, [], ◌∷◌, ◌++◌, map, map-append}
 use Rattle.ledger.specs.Journal.Writes.{ready_line, done_line, Write, append, changed, images, stores, writes_of, writes}
-use Rattle.ledger.specs.Journal.Dues.{due, call_dues, write_due}
+use Rattle.ledger.specs.declared.Due.TheVariants.{Image, Ready, Store, Done}
+use Rattle.ledger.specs.Journal.Dues.{call_dues, write_due}
 
 -- images, stores, and with the lines between them
 module _ (f g : List ℕ) where
-  images_due : (ps : List ℕ) → map (write_due f g) (map (due 1) ps) ≡ images f ps
+  images_due : (ps : List ℕ) → map (write_due f g) (map Image ps) ≡ images f ps
   unfolding write_due images
   images_due [] = refl
-  images_due (p ∷ ps) = ap (λ (ws : List Write). write_due f g (due 1 p) ∷ ws) (images_due ps)
+  images_due (p ∷ ps) = ap (λ (ws : List Write). write_due f g (Image p) ∷ ws) (images_due ps)
 
-  stores_due : (ps : List ℕ) → map (write_due f g) (map (due 3) ps) ≡ stores g ps
+  stores_due : (ps : List ℕ) → map (write_due f g) (map Store ps) ≡ stores g ps
   unfolding write_due stores
   stores_due [] = refl
-  stores_due (p ∷ ps) = ap (λ (ws : List Write). write_due f g (due 3 p) ∷ ws) (stores_due ps)
+  stores_due (p ∷ ps) = ap (λ (ws : List Write). write_due f g (Store p) ∷ ws) (stores_due ps)
 
-  some_due : (ps : List ℕ) → map (write_due f g) (map (due 1) ps ++ (due 2 0 ∷ map (due 3) ps ++ (due 4 0 ∷ [])))
+  some_due : (ps : List ℕ) → map (write_due f g) (map Image ps ++ (Ready ∷ map Store ps ++ (Done ∷ [])))
       ≡ images f ps ++ (append ready_line ∷ stores g ps ++ (append done_line ∷ []))
   some_due ps =
-      let ready : write_due f g (due 2 0) ≡ append ready_line = unfold write_due in refl in
-      let done : write_due f g (due 4 0) ≡ append done_line = unfold write_due in refl in
-      rw (map-append (write_due f g) (map (due 1) ps), images_due ps, map-append (write_due f g) (map (due 3) ps), stores_due ps, ready, done)
+      let ready : write_due f g Ready ≡ append ready_line = unfold write_due in refl in
+      let done : write_due f g Done ≡ append done_line = unfold write_due in refl in
+      rw (map-append (write_due f g) (map Image ps), images_due ps, map-append (write_due f g) (map Store ps), stores_due ps, ready, done)
 
   all_due : (ps : List ℕ) → map (write_due f g) (call_dues ps) ≡ writes_of f g ps
   unfolding call_dues writes_of

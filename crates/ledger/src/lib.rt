@@ -168,10 +168,13 @@ impl Outcome {
     }
 }
 
-// The write of a journal that is due: 1 the image of a page, 2 ready, 3 a page stored, 4 done; in recovery 5 a page put back, 6 the journal emptied;
-// 0 none. `page` is 0 where the write is of no page.
-#[derive(Clone, Copy)]
-pub struct Due {
-    pub phase: u8,
-    pub page: usize,
+// The write of a journal that is due: of a call the image of a page, ready, a page stored, done; of recovery a page put back, the journal emptied.
+#[derive(Clone, Copy, Debug, PartialEq, Eq)]
+pub enum Due {
+    Image(usize),
+    Ready,
+    Store(usize),
+    Done,
+    Back(usize),
+    Empty,
 }

@@ -1,16 +1,16 @@
 -- What each public function computes, with what it promises.
 use Prim.Native.Nat.{ℕ}
-use mathlib.Core.Path.{◌≡◌, sym, ◌∙◌, subst}
+use mathlib.Core.Path.{◌≡◌, sym, subst}
 use mathlib.Core.List.{List}
+use Rattle.std.proofs.Common.{Option}
 use Rattle.restore_model.specs.Texts.{differs, images_on}
 use Rattle.restore_model.specs.Walks.{recover_on}
-use Rattle.restore_model.specs.Plans.{call_first, recovery_first, due_next, marks_on, line_on}
+use Rattle.restore_model.specs.Plans.{due_next, marks_on, line_on}
 use Rattle.ledger.specs.declared.Due.{Due}
-use Rattle.ledger.specs.Journal.Dues.{marked, call_dues, recovery_dues, first_of}
 use Rattle.ledger.specs.Journal.Promises.{Tells, Starts, Restores, Marks, Follows, PutsLine}
 use Rattle.restore_model.proofs.Starts.{tells, starts}
 use Rattle.restore_model.proofs.Restores.{restores}
-use Rattle.restore_model.proofs.Marked.{call_first_lem, recovery_first_lem, follows}
+use Rattle.restore_model.proofs.Marked.{follows}
 use Rattle.restore_model.proofs.Marks.{marks}
 use Rattle.restore_model.proofs.PutsLine.{puts_line}
 
@@ -24,18 +24,11 @@ pub restores_both : (f j s : List ℕ) (r : ℕ) (f' s' : List ℕ) → recover_
     → (recover_on f j s ≡ (r, f', s')) × Restores f j s r f' s'
 restores_both f j s r f' s' e = (e, restores f j s r f' s' e)
 
-pub call_both : (s : List ℕ) (r : Due) → r ≡ call_first s → (r ≡ call_first s) × (r ≡ first_of (call_dues (marked s)))
-call_both s r e = (e, e ∙ call_first_lem s)
+pub follows_from : (s : List ℕ) (d : Due) (r : Option Due) → r ≡ due_next s d → Follows s d r
+follows_from s d r e = subst (λ q. Follows s d q) (sym e) (follows s d)
 
-pub recovery_both : (s : List ℕ) (r : Due) → r ≡ recovery_first s → (r ≡ recovery_first s) × (r ≡ first_of (recovery_dues (marked s)))
-recovery_both s r e = (e, e ∙ recovery_first_lem s)
+pub marks_told_from : (f g s : List ℕ) (r : Option ℕ) (s' : List ℕ) → marks_on f g s ≡ (r, s') → Marks f g s r s'
+marks_told_from f g s r s' e = subst (λ q. Marks f g s q.0 q.1) e (marks f g s)
 
-pub follows_both : (s : List ℕ) (d r : Due) → r ≡ due_next s d → (r ≡ due_next s d) × Follows s d r
-follows_both s d r e = (e, subst (λ q. Follows s d q) (sym e) (follows s d))
-
-pub marks_both : (f g s : List ℕ) (r : ℕ) (s' : List ℕ) → marks_on f g s ≡ (r, s') → (marks_on f g s ≡ (r, s')) × Marks f g s r s'
-marks_both f g s r s' e = (e, subst (λ q. Marks f g s q.0 q.1) e (marks f g s))
-
-pub line_both : (f : List ℕ) (d : Due) (out : List ℕ) (r : ℕ) (out' : List ℕ) → line_on f d out ≡ (r, out')
-    → (line_on f d out ≡ (r, out')) × PutsLine f d out r out'
-line_both f d out r out' e = (e, subst (λ q. PutsLine f d out q.0 q.1) e (puts_line f d out))
+pub puts_line_from : (f : List ℕ) (d : Due) (out : List ℕ) (r : Option ℕ) (out' : List ℕ) → line_on f d out ≡ (r, out') → PutsLine f d out r out'
+puts_line_from f d out r out' e = subst (λ q. PutsLine f d out q.0 q.1) e (puts_line f d out)

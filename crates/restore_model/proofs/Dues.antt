@@ -16,7 +16,8 @@ use Rattle.ledger.proofs.Lists.Parts.{part_here}
 use Rattle.ledger.specs.Bytes.{page_start, page_in}
 use Rattle.ledger.specs.Journal.Writes.{Write, store, clear, Disk, disk, performed}
 use Rattle.ledger.specs.Journal.Recovery.{restore, recovery}
-use Rattle.ledger.specs.Journal.Dues.{due, marked, recovery_dues, write_due}
+use Rattle.ledger.specs.declared.Due.TheVariants.{Back, Empty}
+use Rattle.ledger.specs.Journal.Dues.{marked, recovery_dues, write_due}
 use Rattle.journal_laws.proofs.Places.{page_is}
 use Rattle.journal_laws.proofs.Cuts.{Rises}
 use Rattle.journal_laws.proofs.RecoveryWrites.{PutsBack, recovery_written, stored_clear, file_left}
@@ -57,7 +58,7 @@ module _ (n : ℕ) where
       ∙ page_before d.file bs r (omega arith) (omega arith) long p low (omega arith)
 
   puts_due : {q last : ℕ} {ws : List Write} → PutsBack n q last ws → (d : Disk) → length d.file ≡ 512 * n → (f : List ℕ)
-      → map (write_due f (performed ws d).file) (map (due 5) (stored_in ws)) ≡ ws
+      → map (write_due f (performed ws d).file) (map Back (stored_in ws)) ≡ ws
   unfolding performed stored_in write_due
   puts_due PutsBack.end d size f = refl
   puts_due (PutsBack.next {p = p} {bs = bs} {ws = ws} lt fits long b) d size f =
@@ -79,8 +80,8 @@ module _ (n : ℕ) where
   unfolding recovery_dues
   back_due {ws = ws} b d size f =
       let g = (performed ws d).file in
-      let last : write_due f g (due 6 0) ≡ clear = unfold write_due in refl in
-      rw (file_left ws d, stored_clear ws, map-append (write_due f g) (map (due 5) (stored_in ws)), puts_due b d size f, last)
+      let last : write_due f g Empty ≡ clear = unfold write_due in refl in
+      rw (file_left ws d, stored_clear ws, map-append (write_due f g) (map Back (stored_in ws)), puts_due b d size f, last)
 
 -- the dues of recovery write just what it writes, where the pages are taken from the file that it leaves
 pub recovery_writes_lem : (n : ℕ) (d : Disk) (ws : List Write) (f : List ℕ) → recovery n d ≡ restore ws

@@ -2,7 +2,7 @@
 use Prim.Native.Nat.{ℕ, zero, suc, ◌+◌, ◌-◌, ◌≤◌, ◌<◌}
 use mathlib.Core.Path.{◌≡◌, refl, sym, ◌∙◌, ap}
 use mathlib.Core.Logic.{◌⊎◌, inl, inr}
-use mathlib.Core.Bool.{Bool, cond}
+use mathlib.Core.Bool.{Bool}
 use mathlib.Core.List.{List, [], ◌∷◌, ◌++◌, map}
 use native.Mathlib.Omega.{arith}
 use native.Mathlib.Nat.{sub-zero}
@@ -10,11 +10,13 @@ use native.Mathlib.Numerals.{add-one}
 use lib.ListN.{length, get_or, drop, length-drop}
 use lib.Seq.{drop-drop, get_or-drop}
 use lib.Dec.{eqb}
-use borrow.Author.Tests.{ne_eqb}
-use Rattle.ledger.specs.Numbers.{keep, run, head_or}
+use Rattle.std.proofs.Common.{Option, Some, None}
+use Rattle.std.specs.Option.{option_map, unwrap_or}
+use Rattle.ledger.specs.Numbers.{keep, run}
 use Rattle.ledger.proofs.Lists.Tests.{by_cases}
 use Rattle.ledger.specs.declared.Due.{Due}
-use Rattle.ledger.specs.Journal.Dues.{due, nothing, marked, call_dues, recovery_dues, first_of}
+use Rattle.ledger.specs.declared.Due.TheVariants.{Image, Ready, Store, Done, Back, Empty}
+use Rattle.ledger.specs.Journal.Dues.{marked, call_dues, recovery_dues, first_of}
 use Rattle.restore_model.specs.Plans.{marked_from, marked_after, due_after, call_first, recovery_first, due_next}
 use Rattle.ledger.specs.Journal.Promises.{Follows}
 
@@ -46,6 +48,10 @@ kept_split p (suc n) k (x ∷ xs) q ys h = by_cases (p k)
     further p k n q ys (kept_split p n (suc k) xs q ys rest))
     (λ e. further p k n q ys (kept_split p n (suc k) (x ∷ xs) q ys (rw e at h)))
 
+abbrev head : List ℕ → Option ℕ
+head [] = None
+head (q ∷ qs) = Some q
+
 -- the pages told past page p
 module _ (s : List ℕ) where
   abbrev told : ℕ → Bool
@@ -55,8 +61,8 @@ module _ (s : List ℕ) where
   past p = keep told (run (suc p) (length s - p))
 
   -- the first of them is what is looked for
-  from_is : (ms : List ℕ) (i : ℕ) → drop i s ≡ ms → marked_from i ms ≡ head_or 0 (keep told (run (suc i) (length ms)))
-  unfolding marked_from head_or keep run
+  from_is : (ms : List ℕ) (i : ℕ) → drop i s ≡ ms → marked_from i ms ≡ head (keep told (run (suc i) (length ms)))
+  unfolding marked_from keep run
   from_is [] i h = refl
   from_is (m ∷ ms) i h =
       let first : suc i - 1 ≡ i + 0 = omega arith in
@@ -66,61 +72,58 @@ module _ (s : List ℕ) where
       (λ e. rw (here, e, add-one i))
       (λ e. rw (here, e, add-one i) (from_is ms (suc i) rest))
 
-  after_is : (p : ℕ) → marked_after s p ≡ head_or 0 (past p)
+  after_is : (p : ℕ) → marked_after s p ≡ head (past p)
   unfolding marked_after
   after_is p = from_is (drop p s) p refl ∙ rw length-drop
 
-  -- the write due past page p, where k is done for the pages told, and l after them
-  due_is : (k l p : ℕ) (ds : List Due) → due_after s k l p ≡ first_of (map (due k) (past p) ++ (due l 0 ∷ ds))
-  unfolding due_after head_or
-  due_is k l p ds = rw (after_is p) (go (past p) refl)
+  -- the write due past page p, where `of` is done for the pages told, and l after them
+  due_is : (of : ℕ → Due) (l : Due) (p : ℕ) (ds : List Due) → Some (due_after s of l p) ≡ first_of (map of (past p) ++ (l ∷ ds))
+  due_is of l p ds = rw (after_is p) (go (past p))
     where
-      go : (qs : List ℕ) → past p ≡ qs → cond (eqb (head_or 0 qs) 0) (due l 0) (due k (head_or 0 qs)) ≡ first_of (map (due k) qs ++ (due l 0 ∷ ds))
-      go [] e = refl
-      go (q ∷ qs) e =
-          let (low, high, rest) = kept_split told (length s - p) (suc p) [] q qs e in
-          rw (ne_eqb q 0 (λ z. omega arith))
+      go : (qs : List ℕ) → Some (unwrap_or (option_map of (head qs)) l) ≡ first_of (map of qs ++ (l ∷ ds))
+      go [] = refl
+      go (q ∷ qs) = refl
 
   all_told : past 0 ≡ marked s
   unfolding marked
   all_told = rw (sub-zero (length s))
 
   -- past one that is told
-  due_past : (k l p : ℕ) (xs ys : List ℕ) (ds : List Due) → marked s ≡ xs ++ (p ∷ ys)
-      → due_after s k l p ≡ first_of (map (due k) ys ++ (due l 0 ∷ ds))
-  due_past k l p xs ys ds h =
+  due_past : (of : ℕ → Due) (l : Due) (p : ℕ) (xs ys : List ℕ) (ds : List Due) → marked s ≡ xs ++ (p ∷ ys)
+      → Some (due_after s of l p) ≡ first_of (map of ys ++ (l ∷ ds))
+  due_past of l p xs ys ds h =
       let (low, high, rest) = kept_split told (length s - 0) 1 xs p ys (all_told ∙ h) in
       let e : 1 + (length s - 0) - suc p ≡ length s - p = omega arith in
-      due_is k l p ds ∙ rw (← rest, e)
+      due_is of l p ds ∙ rw (← rest, e)
 
 pub call_first_lem : (s : List ℕ) → call_first s ≡ first_of (call_dues (marked s))
-unfolding call_first call_dues
-call_first_lem s = due_is s 1 0 0 [] ∙ rw (all_told s) (go (marked s))
+unfolding call_dues
+call_first_lem s = rw (after_is s 0, all_told s) (go (marked s))
   where
-    go : (ps : List ℕ) → first_of (map (due 1) ps ++ (nothing ∷ [])) ≡ first_of (call_dues ps)
+    go : (ps : List ℕ) → option_map Image (head ps) ≡ first_of (call_dues ps)
     go [] = refl
     go (p ∷ ps) = refl
 
 pub recovery_first_lem : (s : List ℕ) → recovery_first s ≡ first_of (recovery_dues (marked s))
-unfolding recovery_first recovery_dues
-recovery_first_lem s = due_is s 5 6 0 [] ∙ rw (all_told s)
+unfolding recovery_dues
+recovery_first_lem s = due_is s Back Empty 0 [] ∙ rw (all_told s)
 
 -- where a write stands: among those of the pages `ps`, or after them
-record Among (k : ℕ) (ps : List ℕ) (rest : List Due) (d : Due) (es : List Due) : Type 0 where
+record Among (of : ℕ → Due) (ps : List ℕ) (rest : List Due) (d : Due) (es : List Due) : Type 0 where
   before : List ℕ
   page : ℕ
   after : List ℕ
   pages : ps ≡ before ++ (page ∷ after)
-  is : d ≡ due k page
-  later : es ≡ map (due k) after ++ rest
+  is : d ≡ of page
+  later : es ≡ map of after ++ rest
 
-stands : (k : ℕ) (ps : List ℕ) (rest ds : List Due) (d : Due) (es : List Due) → map (due k) ps ++ rest ≡ ds ++ (d ∷ es)
-    → Among k ps rest d es ⊎ ((cs : List Due) × (rest ≡ cs ++ (d ∷ es)))
-stands k [] rest ds d es h = inr (ds, h)
-stands k (p ∷ ps) rest [] d es h = inl (record { before = []; page = p; after = ps; pages = refl; is = cc; later = cc })
-stands k (p ∷ ps) rest (c ∷ ds) d es h =
-    let tail : map (due k) ps ++ rest ≡ ds ++ (d ∷ es) = cc in
-    elim (stands k ps rest ds d es tail) [
+stands : (of : ℕ → Due) (ps : List ℕ) (rest ds : List Due) (d : Due) (es : List Due) → map of ps ++ rest ≡ ds ++ (d ∷ es)
+    → Among of ps rest d es ⊎ ((cs : List Due) × (rest ≡ cs ++ (d ∷ es)))
+stands of [] rest ds d es h = inr (ds, h)
+stands of (p ∷ ps) rest [] d es h = inl (record { before = []; page = p; after = ps; pages = refl; is = cc; later = cc })
+stands of (p ∷ ps) rest (c ∷ ds) d es h =
+    let tail : map of ps ++ rest ≡ ds ++ (d ∷ es) = cc in
+    elim (stands of ps rest ds d es tail) [
       | inl a ↦ inl (record {
         before = p ∷ a.before;
         page = a.page;
@@ -145,48 +148,40 @@ none_there (c ∷ ds) d es h = absurd (let z : ◌≡◌ {A = ℕ} 0 1 = cc in o
 
 -- what comes after a write, by where it stands
 module _ (s : List ℕ) (d : Due) where
-  after_image : (rest es : List Due) → Among 1 (marked s) (due 2 0 ∷ rest) d es → due_next s d ≡ first_of es
-  unfolding due_next
-  after_image rest es a = rw (a.is, a.later) (due_past s 1 2 a.page a.before a.after rest a.pages)
+  after_image : (rest es : List Due) → Among Image (marked s) (Ready ∷ rest) d es → due_next s d ≡ first_of es
+  after_image rest es a = rw (a.is, a.later) (due_past s Image Ready a.page a.before a.after rest a.pages)
 
-  after_ready : (es : List Due) → d ≡ due 2 0 → es ≡ map (due 3) (marked s) ++ (due 4 0 ∷ []) → due_next s d ≡ first_of es
-  unfolding due_next
-  after_ready es is later = rw (is, later) (due_is s 3 4 0 [] ∙ rw (all_told s))
+  after_ready : (es : List Due) → d ≡ Ready → es ≡ map Store (marked s) ++ (Done ∷ []) → due_next s d ≡ first_of es
+  after_ready es is later = rw (is, later) (due_is s Store Done 0 [] ∙ rw (all_told s))
 
-  after_store : (es : List Due) → Among 3 (marked s) (due 4 0 ∷ []) d es → due_next s d ≡ first_of es
-  unfolding due_next
-  after_store es a = rw (a.is, a.later) (due_past s 3 4 a.page a.before a.after [] a.pages)
+  after_store : (es : List Due) → Among Store (marked s) (Done ∷ []) d es → due_next s d ≡ first_of es
+  after_store es a = rw (a.is, a.later) (due_past s Store Done a.page a.before a.after [] a.pages)
 
-  after_back : (es : List Due) → Among 5 (marked s) (due 6 0 ∷ []) d es → due_next s d ≡ first_of es
-  unfolding due_next
-  after_back es a = rw (a.is, a.later) (due_past s 5 6 a.page a.before a.after [] a.pages)
+  after_back : (es : List Due) → Among Back (marked s) (Empty ∷ []) d es → due_next s d ≡ first_of es
+  after_back es a = rw (a.is, a.later) (due_past s Back Empty a.page a.before a.after [] a.pages)
 
-  after_last : (k : ℕ) (es : List Due) → (k ≡ 4) ⊎ (k ≡ 6) → (ds : List Due) → due k 0 ∷ [] ≡ ds ++ (d ∷ es) → due_next s d ≡ first_of es
-  unfolding due_next
-  after_last k es which ds h =
-      elim (first_or_later (due k 0) [] ds d es h) [
-        | inl (is, later) ↦ rw (is, later) (elim which [
-          | inl e ↦ rw e
-          | inr e ↦ rw e
-        ])
+  after_last : (l : Due) (es : List Due) → due_next s l ≡ None → (ds : List Due) → l ∷ [] ≡ ds ++ (d ∷ es) → due_next s d ≡ first_of es
+  after_last l es none ds h =
+      elim (first_or_later l [] ds d es h) [
+        | inl (is, later) ↦ rw (is, later) none
         | inr (cs, e) ↦ none_there cs d es e
       ]
 
   -- after the ready line, or at it
-  past_images : (ds es : List Due) → due 2 0 ∷ (map (due 3) (marked s) ++ (due 4 0 ∷ [])) ≡ ds ++ (d ∷ es) → due_next s d ≡ first_of es
+  past_images : (ds es : List Due) → Ready ∷ (map Store (marked s) ++ (Done ∷ [])) ≡ ds ++ (d ∷ es) → due_next s d ≡ first_of es
   past_images ds es h =
-      elim (first_or_later (due 2 0) (map (due 3) (marked s) ++ (due 4 0 ∷ [])) ds d es h) [
+      elim (first_or_later Ready (map Store (marked s) ++ (Done ∷ [])) ds d es h) [
         | inl (is, later) ↦ after_ready es is later
-        | inr (cs, e) ↦ elim (stands 3 (marked s) (due 4 0 ∷ []) cs d es e) [
+        | inr (cs, e) ↦ elim (stands Store (marked s) (Done ∷ []) cs d es e) [
           | inl a ↦ after_store es a
-          | inr (bs, e2) ↦ after_last 4 es (inl refl) bs e2
+          | inr (bs, e2) ↦ after_last Done es refl bs e2
         ]
       ]
 
-  call_some : (ds es : List Due) → map (due 1) (marked s) ++ (due 2 0 ∷ (map (due 3) (marked s) ++ (due 4 0 ∷ []))) ≡ ds ++ (d ∷ es)
+  call_some : (ds es : List Due) → map Image (marked s) ++ (Ready ∷ (map Store (marked s) ++ (Done ∷ []))) ≡ ds ++ (d ∷ es)
       → due_next s d ≡ first_of es
   call_some ds es h =
-      elim (stands 1 (marked s) (due 2 0 ∷ (map (due 3) (marked s) ++ (due 4 0 ∷ []))) ds d es h) [
+      elim (stands Image (marked s) (Ready ∷ (map Store (marked s) ++ (Done ∷ []))) ds d es h) [
         | inl a ↦ after_image _ es a
         | inr (cs, e) ↦ past_images cs es e
       ]
@@ -199,9 +194,9 @@ module _ (s : List ℕ) (d : Due) where
   recovery_follows : (ds es : List Due) → recovery_dues (marked s) ≡ ds ++ (d ∷ es) → due_next s d ≡ first_of es
   unfolding recovery_dues
   recovery_follows ds es h =
-      elim (stands 5 (marked s) (due 6 0 ∷ []) ds d es h) [
+      elim (stands Back (marked s) (Empty ∷ []) ds d es h) [
         | inl a ↦ after_back es a
-        | inr (cs, e) ↦ after_last 6 es (inr refl) cs e
+        | inr (cs, e) ↦ after_last Empty es refl cs e
       ]
 
 pub follows : (s : List ℕ) (d : Due) → Follows s d (due_next s d)

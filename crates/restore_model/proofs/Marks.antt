@@ -8,6 +8,7 @@ use lib.ListN.{length, get_or, take, drop, set, length-set}
 use lib.Seq.{length-take-le, get_or-take, get_or-set_same, get_or-set_other, drop-set-lt}
 use lib.Dec.{eqb, ltb}
 use borrow.Author.Tests.{eq-eqb, ne_eqb, le-ltb, ltb-false}
+use Rattle.std.proofs.Common.{Option, Some, None}
 use Rattle.ledger.specs.Numbers.{same_key, run}
 use Rattle.ledger.proofs.Lists.Tests.{by_cases, same_or_not}
 use Rattle.ledger.proofs.Lists.Members.{run_elem}
@@ -67,13 +68,13 @@ module _ (f g : List ℕ) where
       rw (get_or-take n s' (p - 1) 0 (omega arith), from_each n 0 (p - 1) s (omega arith) (omega arith) (omega arith), back) (told_is p)))
 
   -- what is computed where the lengths are right, and where one is wrong
-  sized : (n : ℕ) (s : List ℕ) → Paged n f → length f ≡ length g → n ≤ length s → marks_on f g s ≡ (n, marks_from f g s 0 n)
+  sized : (n : ℕ) (s : List ℕ) → Paged n f → length f ≡ length g → n ≤ length s → marks_on f g s ≡ (Some n, marks_from f g s 0 n)
   unfolding marks_on
   sized n s paged same room =
       let some = paged.some in
       rw (eq-eqb (length f) (length g) same, paged_pages n f paged, ne_eqb n 0 (λ e. omega arith), le-ltb (length s) n room)
 
-  unsized : (s : List ℕ) → ((n : ℕ) → Paged n f → length f ≡ length g → n ≤ length s → ⊥) → marks_on f g s ≡ (0, s)
+  unsized : (s : List ℕ) → ((n : ℕ) → Paged n f → length f ≡ length g → n ≤ length s → ⊥) → marks_on f g s ≡ (None, s)
   unfolding marks_on
   unsized s bad =
       let n = pages_in (length f) in
@@ -86,8 +87,8 @@ module _ (f g : List ℕ) where
       (λ apart. rw (ne_eqb (length f) (length g) apart))
 
 -- both parts of a pair
-pub parts : {p : ℕ × List ℕ} {x : ℕ} {y : List ℕ} → p ≡ (x, y) → (p.0 ≡ x) × (p.1 ≡ y)
-parts e = (ap (λ (p : ℕ × List ℕ). p.0) e, ap (λ (p : ℕ × List ℕ). p.1) e)
+pub parts : {p : Option ℕ × List ℕ} {x : Option ℕ} {y : List ℕ} → p ≡ (x, y) → (p.0 ≡ x) × (p.1 ≡ y)
+parts e = (ap (λ (p : Option ℕ × List ℕ). p.0) e, ap (λ (p : Option ℕ × List ℕ). p.1) e)
 
 pub marks : (f g s : List ℕ) → Marks f g s (marks_on f g s).0 (marks_on f g s).1
 marks f g s = record {

@@ -1,56 +1,63 @@
 -- The write that is due, as the code finds it: `s` tells the pages that are stored, its byte p - 1 is 1.
-use Rattle.std.specs.Prelude.{ℕ, zero, suc, ◌+◌, ◌*◌, cond, List, [], ◌∷◌, length, set, drop, eqb, ltb}
+use Rattle.std.specs.Prelude.{ℕ, zero, suc, ◌+◌, ◌*◌, Option, Some, None, cond, List, [], ◌∷◌, length, set, drop, eqb, ltb}
+use Rattle.std.specs.Option.{option_map, unwrap_or}
 use Rattle.ledger.specs.declared.Due.{Due}
-use Rattle.ledger.specs.Journal.Dues.{due, nothing}
+use Rattle.ledger.specs.declared.Due.TheVariants.{Image, Ready, Store, Done, Back, Empty}
 use Rattle.restore_model.specs.Texts.{pages_in, differs, digits_put, image_put, ready_put}
 
--- the lowest page told past i, where `ms` is what s says past it; 0 where there is none
-unfoldable pub marked_from : ℕ → List ℕ → ℕ
-marked_from i [] = 0
-marked_from i (m ∷ ms) = cond (eqb m 1) (i + 1) (marked_from (i + 1) ms)
+-- the lowest page told past i, where `ms` is what s says past it
+unfoldable pub marked_from : ℕ → List ℕ → Option ℕ
+marked_from i [] = None
+marked_from i (m ∷ ms) = cond (eqb m 1) (Some (i + 1)) (marked_from (i + 1) ms)
 
-unfoldable pub marked_after : List ℕ → ℕ → ℕ
+unfoldable pub marked_after : List ℕ → ℕ → Option ℕ
 marked_after s p = marked_from p (drop p s)
 
--- phase k at the next page told past p, or phase l where there is none
-unfoldable pub due_after : List ℕ → ℕ → ℕ → ℕ → Due
-due_after s k l p = cond (eqb (marked_after s p) 0) (due l 0) (due k (marked_after s p))
+-- the write of the next page told past p, or `last` where there is none
+abbrev pub due_after : List ℕ → (ℕ → Due) → Due → ℕ → Due
+due_after s of last p = unwrap_or (option_map of (marked_after s p)) last
 
-unfoldable pub call_first : List ℕ → Due
-call_first s = due_after s 1 0 0
+abbrev pub call_first : List ℕ → Option Due
+call_first s = option_map Image (marked_after s 0)
 
-unfoldable pub recovery_first : List ℕ → Due
-recovery_first s = due_after s 5 6 0
+abbrev pub recovery_first : List ℕ → Option Due
+recovery_first s = Some (due_after s Back Empty 0)
 
-unfoldable pub due_next : List ℕ → Due → Due
-due_next s d =
-    cond (eqb d.phase 1) (due_after s 1 2 d.page)
-    (cond (eqb d.phase 2) (due_after s 3 4 0)
-    (cond (eqb d.phase 3) (due_after s 3 4 d.page)
-    (cond (eqb d.phase 5) (due_after s 5 6 d.page) nothing)))
+abbrev pub due_next : List ℕ → Due → Option Due
+due_next s (Image p) = Some (due_after s Image Ready p)
+due_next s Ready = Some (due_after s Store Done 0)
+due_next s (Store p) = Some (due_after s Store Done p)
+due_next s Done = None
+due_next s (Back p) = Some (due_after s Back Empty p)
+due_next s Empty = None
 
 -- the pages that differ told in s, from page i + 1 on, k of them
 unfoldable pub marks_from : List ℕ → List ℕ → List ℕ → ℕ → ℕ → List ℕ
 marks_from f g s i zero = s
 marks_from f g s i (suc k) = marks_from f g (set s i (differs f g (i + 1))) (i + 1) k
 
--- the same of all pages, and how many there are; 0 where a length is wrong
-unfoldable pub marks_on : List ℕ → List ℕ → List ℕ → ℕ × List ℕ
+-- the same of all pages, and how many there are; none where a length is wrong
+unfoldable pub marks_on : List ℕ → List ℕ → List ℕ → Option ℕ × List ℕ
 marks_on f g s =
     let n = pages_in (length f) in
     cond (eqb (length f) (length g))
-    (cond (eqb n 0) (0, s) (cond (ltb (length s) n) (0, s) (n, marks_from f g s 0 n)))
-    (0, s)
+    (cond (eqb n 0) (None, s) (cond (ltb (length s) n) (None, s) (Some n, marks_from f g s 0 n)))
+    (None, s)
 
 unfoldable pub done_put : List ℕ → ℕ → List ℕ
 done_put out at = set (digits_put out at (255 ∷ 255 ∷ [])) (at + 4) 10
 
--- the line that is due put at the front of an output, and its length; 0 where it is no line, or there is no room
-unfoldable pub line_on : List ℕ → Due → List ℕ → ℕ × List ℕ
-line_on f d out =
-    cond (eqb d.phase 1)
-    (cond (eqb d.page 0) (0, out)
-    (cond (ltb (length f) (512 * d.page)) (0, out)
-    (cond (ltb (length out) 1029) (0, out) (1029, image_put out 0 f d.page))))
-    (cond (eqb d.phase 2) (cond (ltb (length out) 5) (0, out) (5, ready_put out 0))
-    (cond (eqb d.phase 4) (cond (ltb (length out) 5) (0, out) (5, done_put out 0)) (0, out)))
+-- a line of n bytes put where the output has room for it, and its length
+abbrev pub where_room : ℕ → List ℕ → List ℕ → Option ℕ × List ℕ
+where_room n out put = cond (ltb (length out) n) (None, out) (Some n, put)
+
+-- the line that is due put at the front of an output, and its length; none where it is no line, or there is no room
+unfoldable pub line_on : List ℕ → Due → List ℕ → Option ℕ × List ℕ
+line_on f (Image p) out =
+    cond (eqb p 0) (None, out)
+    (cond (ltb (length f) (512 * p)) (None, out) (where_room 1029 out (image_put out 0 f p)))
+line_on f Ready out = where_room 5 out (ready_put out 0)
+line_on f (Store p) out = (None, out)
+line_on f Done out = where_room 5 out (done_put out 0)
+line_on f (Back p) out = (None, out)
+line_on f Empty out = (None, out)

@@ -1,6 +1,6 @@
 // Records sorted by type and CALC key, by merging, so that twins stand side by side. A record is named by where it starts in the file.
 ghost use Rattle.std.specs.Prelude.{◌≡◌, length};
-ghost use Rattle.audit_model.specs.Sorting.{key_from, goes_before, takes_second, merged, fitted, halves_merged, sorted};
+ghost use Rattle.audit_model.specs.Sorting.{key_from, goes_before, second_first, merged, halves_merged, sorted};
 
 use page::bytes;
 use table::{keys, sizes, words};
@@ -21,60 +21,31 @@ pub fn goes_before(table: &[u16], file: &[u8], a: u16, b: u16) -> bool
 {
     let x = bytes::two_at(file, a as usize);
     let y = bytes::two_at(file, b as usize);
-    if x < y {
-        return true;
-    }
-    if y < x {
-        return false;
-    }
-    keys::less_key(key_from(table, file, a), key_from(table, file, b))
+    x < y || x == y && keys::less_key(key_from(table, file, a), key_from(table, file, b))
 }
 
-// Whether the next to be merged is the second list's: `i` of the first and `k` of the second are next.
-fn takes_second(
-    table: &[u16],
-    file: &[u8],
-    first: &[u16],
-    i: usize,
-    second: &[u16],
-    k: usize,
-) -> bool
-    ensures { result ≡ takes_second (goes_before table.now file.now) first.now i second.now k }
+// Of two lists to be merged, whether the second's first comes next: where the first list is at its end, or where it goes before the first's.
+fn second_first(table: &[u16], file: &[u8], first: &[u16], second: &[u16]) -> bool
+    ensures { result ≡ second_first (goes_before table.now file.now) first.now second.now }
 {
-    if second.len() <= k {
-        return false;
+    match (first.first(), second.first()) {
+        (_, None) => false,
+        (None, Some(_)) => true,
+        (Some(x), Some(y)) => goes_before(table, file, *y, *x),
     }
-    if first.len() <= i {
-        return true;
-    }
-    goes_before(table, file, words::word(second, k), words::word(first, i))
 }
 
 // Merges two sorted lists into `out`.
-fn merge(table: &[u16], file: &[u8], first: &[u16], second: &[u16], out: &mut [u16])
+fn merge(table: &[u16], file: &[u8], mut first: &[u16], mut second: &[u16], out: &mut [u16])
     ensures { merged (goes_before table.now file.now) (length out.old) first.now second.now ≡ out.new }
 {
-    let mut i: usize = 0;
-    let mut k: usize = 0;
-    while i + k < out.len() {
-        if takes_second(table, file, first, i, second, k) {
-            out[i + k] = words::word(second, k);
-            k += 1;
+    for place in out.iter_mut() {
+        let next = if second_first(table, file, first, second) {
+            second.split_off_first()
         } else {
-            out[i + k] = words::word(first, i);
-            i += 1;
-        }
-    }
-}
-
-// Fills `to` from the front of another list.
-fn copy(from: &[u16], to: &mut [u16])
-    ensures { fitted (length to.old) from.now ≡ to.new }
-{
-    let mut i: usize = 0;
-    while i < to.len() {
-        to[i] = words::word(from, i);
-        i += 1;
+            first.split_off_first()
+        };
+        *place = next.copied().unwrap_or(0);
     }
 }
 
@@ -86,24 +57,22 @@ fn merge_halves(table: &[u16], file: &[u8], list: &mut [u16], scratch: &mut [u16
     if scratch.len() < n {
         return;
     }
-    let h = n / 2;
-    let both = &list[..];
-    merge(table, file, &both[0..h], &both[h..], &mut scratch[0..n]);
-    copy(scratch, list);
+    let (first, second) = list.split_at(n / 2);
+    merge(table, file, first, second, &mut scratch[..n]);
+    list.copy_from_slice(&scratch[..n]);
 }
 
 // Sorts a list of at most 2^level records, where `scratch` has room for it.
+// The library has no sort that would do: its stable one takes a buffer from a heap, and what is proved of twins is proved of `sorted`, which
+// is this merge sort.
 pub fn sort(table: &[u16], file: &[u8], list: &mut [u16], scratch: &mut [u16], level: u8)
     ensures { sorted (goes_before table.now file.now) (length scratch.old) level list.old ≡ list.new }
 {
-    if level == 0 {
+    if level == 0 || list.len() < 2 {
         return;
     }
-    if list.len() < 2 {
-        return;
-    }
-    let h = list.len() / 2;
-    sort(table, file, &mut list[0..h], scratch, level - 1);
-    sort(table, file, &mut list[h..], scratch, level - 1);
+    let (low, high) = list.split_at_mut(list.len() / 2);
+    sort(table, file, low, scratch, level - 1);
+    sort(table, file, high, scratch, level - 1);
     merge_halves(table, file, list, scratch);
 }

@@ -1,5 +1,6 @@
 // Calculated records of one type with one key.
-ghost use Rattle.std.specs.Prelude.{◌≡◌, length};
+ghost use Rattle.std.specs.Prelude.{ℕ, ◌≡◌, length};
+ghost use Rattle.ledger.specs.Numbers.{or_none};
 ghost use Rattle.audit_model.specs.Twins.{are_twins, calculated_at, gather_on, code_from, lower, lower_twin, lowest_from, twin_among, twin_fault};
 
 use crate::sorting;
@@ -9,34 +10,27 @@ use table::{keys, words};
 // As many records as the largest file has lines.
 pub const MOST: usize = 8064;
 
+// 2^LEVELS is no less.
+const LEVELS: u8 = 13;
+
 // Whether two records have one type and one key.
 fn are_twins(table: &[u16], file: &[u8], a: u16, b: u16) -> bool
     ensures { result ≡ are_twins table.now file.now a b }
 {
-    let x = bytes::two_at(file, a as usize);
-    let y = bytes::two_at(file, b as usize);
-    if x != y {
-        return false;
-    }
-    keys::same_key(
-        sorting::key_from(table, file, a),
-        sorting::key_from(table, file, b),
-    )
+    bytes::two_at(file, a as usize) == bytes::two_at(file, b as usize)
+        && keys::same_key(
+            sorting::key_from(table, file, a),
+            sorting::key_from(table, file, b),
+        )
 }
 
-// Where a code's record starts if it is calculated, else 0.
-fn calculated_at(table: &[u16], file: &[u8], code: u32) -> u16
-    ensures { result ≡ calculated_at table.now file.now code }
+// Where a code's record starts if it is calculated.
+fn calculated_at(table: &[u16], file: &[u8], code: u32) -> Option<u16>
+    ensures { result ≡ or_none (calculated_at table.now file.now code) }
 {
-    let s = lookup::find(file, code);
-    if s == 0 {
-        return 0;
-    }
+    let s = lookup::find(file, code)?;
     let kind = bytes::two_at(file, s);
-    if words::is_calculated(table, kind) {
-        return (s % 65536) as u16;
-    }
-    0
+    words::is_calculated(table, kind).then_some((s % 65536) as u16)
 }
 
 // Puts where each calculated record starts into `list`; how many there are.
@@ -44,13 +38,9 @@ fn gather(table: &[u16], file: &[u8], list: &mut [u16]) -> usize
     ensures { gather_on table.now file.now list.old ≡ (result, list.new) }
 {
     let mut n: usize = 0;
-    let mut code: u32 = 64;
-    let mut left = 64 * (words::word(table, words::PAGES) as u32);
-    while 0 < left {
-        let s = calculated_at(table, file, code);
-        code += 1;
-        left -= 1;
-        if s != 0 {
+    let pages = words::word(table, words::PAGES) as u32;
+    for code in 64..64 * (pages + 1) {
+        if let Some(s) = calculated_at(table, file, code) {
             if n < list.len() {
                 list[n] = s;
                 n += 1;
@@ -67,54 +57,48 @@ fn code_from(file: &[u8], s: u16) -> u32
     64 * (s as u32 / 512 + 1) + lookup::line_at(file, s as usize) as u32 % 64
 }
 
-// The lower of two codes, where 0 is none.
-fn lower(a: u32, b: u32) -> u32
-    ensures { result ≡ lower a b }
+// The lower of a code and the lowest before it.
+fn lower(lowest: Option<u32>, code: u32) -> u32
+    ensures { (n : ℕ) → lowest ≡ or_none n → result ≡ lower n code }
 {
-    if a == 0 {
-        return b;
-    }
-    if b < a { b } else { a }
+    lowest.unwrap_or(code).min(code)
 }
 
 // `lowest`, or a lower one of two codes if their records are twins.
-fn lower_twin(table: &[u16], file: &[u8], lowest: u32, a: u16, b: u16) -> u32
-    ensures { result ≡ lower_twin table.now file.now lowest a b }
+fn lower_twin(table: &[u16], file: &[u8], lowest: Option<u32>, a: u16, b: u16) -> Option<u32>
+    ensures { (n : ℕ) → lowest ≡ or_none n → result ≡ or_none (lower_twin table.now file.now n a b) }
 {
-    if are_twins(table, file, a, b) {
-        return lower(lower(lowest, code_from(file, a)), code_from(file, b));
+    if !are_twins(table, file, a, b) {
+        return lowest;
+    }
+    let first = lower(lowest, code_from(file, a));
+    Some(lower(Some(first), code_from(file, b)))
+}
+
+// The lowest code among twins that stand side by side in a sorted list.
+fn lowest_twin(table: &[u16], file: &[u8], list: &[u16]) -> Option<u32>
+    ensures { result ≡ or_none (lowest_from table.now file.now 0 list.now) }
+{
+    let mut lowest = None;
+    for pair in list.windows(2) {
+        lowest = lower_twin(table, file, lowest, pair[0], pair[1]);
     }
     lowest
 }
 
-// The lowest code among twins that stand side by side in a sorted list, or 0.
-fn lowest_twin(table: &[u16], file: &[u8], list: &[u16]) -> u32
-    ensures { result ≡ lowest_from table.now file.now 0 list.now }
-{
-    let mut lowest: u32 = 0;
-    let mut i: usize = 1;
-    while i < list.len() {
-        lowest = lower_twin(table, file, lowest, list[i - 1], list[i]);
-        i += 1;
-    }
-    lowest
-}
-
-// The lowest code that has a twin among the calculated records that `list` has room for, or 0.
-fn twin_among(table: &[u16], file: &[u8], list: &mut [u16], scratch: &mut [u16]) -> u32
-    ensures { result ≡ twin_among table.now file.now (length list.old) (length scratch.old) }
+// The lowest code that has a twin among the calculated records that `list` has room for.
+fn twin_among(table: &[u16], file: &[u8], list: &mut [u16], scratch: &mut [u16]) -> Option<u32>
+    ensures { result ≡ or_none (twin_among table.now file.now (length list.old) (length scratch.old)) }
 {
     let n = gather(table, file, list);
-    if list.len() < n {
-        return 0;
-    }
-    sorting::sort(table, file, &mut list[0..n], scratch, 13);
-    lowest_twin(table, file, &list[0..n])
+    let gathered = &mut list[..n];
+    sorting::sort(table, file, gathered, scratch, LEVELS);
+    lowest_twin(table, file, gathered)
 }
 
-// The lowest code that has a calculated twin, or 0.
-pub fn twin_fault(table: &[u16], file: &[u8]) -> u32
-    ensures { result ≡ twin_fault table.now file.now }
+// The lowest code that has a calculated twin.
+pub fn twin_fault(table: &[u16], file: &[u8]) -> Option<u32>
+    ensures { result ≡ or_none (twin_fault table.now file.now) }
 {
     let mut list = [0u16; MOST];
     let mut scratch = [0u16; MOST];

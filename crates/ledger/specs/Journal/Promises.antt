@@ -1,10 +1,11 @@
 -- What the journal's functions promise, in the words of document 02 a alone.
-use Rattle.std.specs.Prelude.{ℕ, ◌*◌, ◌-◌, ◌≤◌, ◌<◌, ◌≡◌, ◌≢◌, ◌⊎◌, cond, List, [], ◌∷◌, ◌++◌, length, get_or, take, drop}
+use Rattle.std.specs.Prelude.{ℕ, ◌*◌, ◌-◌, ◌≤◌, ◌<◌, ◌≡◌, ◌≢◌, ◌⊎◌, cond, Option, Some, None, List, [], ◌∷◌, ◌++◌, length, get_or, take, drop}
 use Rattle.ledger.specs.Numbers.{elem}
 use Rattle.ledger.specs.Journal.Writes.{ready_line, Write, append, store, clear, changed, images, disk, performed}
 use Rattle.ledger.specs.Journal.Recovery.{refuse, restore, recovery}
 use Rattle.ledger.specs.declared.Due.{Due}
-use Rattle.ledger.specs.Journal.Dues.{nothing, marked, call_dues, recovery_dues, first_of, write_due}
+use Rattle.ledger.specs.declared.Due.TheVariants.{Image}
+use Rattle.ledger.specs.Journal.Dues.{marked, call_dues, recovery_dues, first_of, write_due}
 
 -- a file of 1 to 128 pages
 pub record Paged (n : ℕ) (f : List ℕ) : Type 0 where
@@ -53,28 +54,31 @@ pub record Restores (f j s : List ℕ) (r : ℕ) (f' s' : List ℕ) : Type 0 whe
   pub restored : (n : ℕ) (ws : List Write) → Paged n f → n ≤ length s → recovery n (disk f j) ≡ restore ws
       → (r ≡ 0) × (f' ≡ (performed ws (disk f j)).file) × Told n ws s s'
 
--- mark: of n pages, those that differ are told by 1, the others by 0; 0 and nothing written where a length is wrong
-pub record Marks (f f' s : List ℕ) (r : ℕ) (s' : List ℕ) : Type 0 where
-  pub wrong_size : ((n : ℕ) → Paged n f → length f ≡ length f' → n ≤ length s → ⊥) → (r ≡ 0) × (s' ≡ s)
+-- mark: of n pages, those that differ are told by 1, the others by 0; none and nothing written where a length is wrong
+pub record Marks (f f' s : List ℕ) (r : Option ℕ) (s' : List ℕ) : Type 0 where
+  pub wrong_size : ((n : ℕ) → Paged n f → length f ≡ length f' → n ≤ length s → ⊥) → (r ≡ None) × (s' ≡ s)
   pub all : (n : ℕ) → Paged n f → length f ≡ length f' → n ≤ length s
-      → (r ≡ n) × (marked (take n s') ≡ changed n f f') × (drop n s' ≡ drop n s) × (length s' ≡ length s)
+      → (r ≡ Some n) × (marked (take n s') ≡ changed n f f') × (drop n s' ≡ drop n s) × (length s' ≡ length s)
 
--- next: after each write of a call, and of recovery, the one that comes after it, `nothing` after the last
-pub record Follows (s : List ℕ) (d r : Due) : Type 0 where
+-- next: after each write of a call, and of recovery, the one that comes after it, none after the last
+pub record Follows (s : List ℕ) (d : Due) (r : Option Due) : Type 0 where
   pub in_call : (ds es : List Due) → call_dues (marked s) ≡ ds ++ (d ∷ es) → r ≡ first_of es
   pub in_recovery : (ds es : List Due) → recovery_dues (marked s) ≡ ds ++ (d ∷ es) → r ≡ first_of es
 
 -- what a loop performs that begins with d, goes on with what follows, and ends where nothing is due
-pub data Performs (s : List ℕ) : Due → List Due → Type 0 where
-  ends : Performs s nothing []
-  goes : {d r : Due} {ds : List Due} → d ≢ nothing → Follows s d r → Performs s r ds → Performs s d (d ∷ ds)
+pub data Performs (s : List ℕ) : Option Due → List Due → Type 0 where
+  ends : Performs s None []
+  goes : {d : Due} {r : Option Due} {ds : List Due} → Follows s d r → Performs s r ds → Performs s (Some d) (d ∷ ds)
 
--- put_line: the line that is due, with its line end, stands at the front of `out`, and the rest stays; 0 and nothing written where a store is due,
--- or nothing, where the page is none of the file, or where there is no room
-pub record PutsLine (f : List ℕ) (d : Due) (out : List ℕ) (r : ℕ) (out' : List ℕ) : Type 0 where
-  pub line : (g bs : List ℕ) → ((d.phase ≢ 1) ⊎ ((1 ≤ d.page) × (512 * d.page ≤ length f))) → write_due f g d ≡ append bs → length bs ≤ length out
-      → (r ≡ length bs) × (out' ≡ bs ++ drop r out)
-  pub no_room : (g bs : List ℕ) → ((d.phase ≢ 1) ⊎ ((1 ≤ d.page) × (512 * d.page ≤ length f))) → write_due f g d ≡ append bs → length out < length bs
-      → (r ≡ 0) × (out' ≡ out)
-  pub no_page : d.phase ≡ 1 → (d.page ≡ 0) ⊎ (length f < 512 * d.page) → (r ≡ 0) × (out' ≡ out)
-  pub no_line : (g : List ℕ) → ((bs : List ℕ) → write_due f g d ≡ append bs → ⊥) → (r ≡ 0) × (out' ≡ out)
+-- an image that is due is of a page of the file
+abbrev pub InFile : List ℕ → Due → Type 0
+InFile f d = (p : ℕ) → d ≡ Image p → (1 ≤ p) × (512 * p ≤ length f)
+
+-- put_line: the line that is due, with its line end, stands at the front of `out`, and the rest stays; none and nothing written where a store is
+-- due, where the page is none of the file, or where there is no room
+pub record PutsLine (f : List ℕ) (d : Due) (out : List ℕ) (r : Option ℕ) (out' : List ℕ) : Type 0 where
+  pub line : (g bs : List ℕ) → InFile f d → write_due f g d ≡ append bs → length bs ≤ length out
+      → (r ≡ Some (length bs)) × (out' ≡ bs ++ drop (length bs) out)
+  pub no_room : (g bs : List ℕ) → InFile f d → write_due f g d ≡ append bs → length out < length bs → (r ≡ None) × (out' ≡ out)
+  pub no_page : (p : ℕ) → d ≡ Image p → (p ≡ 0) ⊎ (length f < 512 * p) → (r ≡ None) × (out' ≡ out)
+  pub no_line : (g : List ℕ) → ((bs : List ℕ) → write_due f g d ≡ append bs → ⊥) → (r ≡ None) × (out' ≡ out)

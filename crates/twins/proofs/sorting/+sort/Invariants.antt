@@ -1,0 +1,4 @@
+use Rattle.twins.proofs.sorting.+sort.Given as goal
+
+abbrev pub decreases-sort : goal.decreases-sort
+decreases-sort l = l.level
