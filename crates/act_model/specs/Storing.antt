@@ -1,14 +1,13 @@
 -- STORE on any bytes `f`: its refusals up to 10, and what it writes. `x` is the new record's code.
-use Rattle.std.specs.Prelude.{ℕ, zero, suc, ◌+◌, ◌*◌, ◌%◌, Bool, cond, not, ◌&&◌, ◌||◌, List, length, get_or, set, replicate, eqb, ltb}
+use Rattle.std.specs.Prelude.{ℕ, zero, suc, ◌+◌, ◌*◌, ◌%◌, Bool, cond, not, ◌&&◌, ◌||◌, List, length, get_or, map, eqb, ltb}
 use Rattle.ledger.specs.declared.Currency.{Currency}
-use Rattle.ledger.specs.Numbers.{any}
+use Rattle.ledger.specs.Numbers.{any, run}
 use Rattle.ledger.specs.Table.{chains, row, data_len, defined, calculated, is_detail, in_chain, calc_key, sort_key}
 use Rattle.ledger.specs.Pages.{record_size, home}
 use Rattle.ledger.specs.Currency.{chain_current}
 use Rattle.ledger.specs.Calls.{as_detail}
 use Rattle.model.specs.declared.Gap.{Gap}
 use Rattle.model.specs.declared.Between.{Between}
-use Rattle.model.specs.declared.Places.{Places}
 use Rattle.model.specs.Reads.{head_next_in}
 use Rattle.ledger.specs.Bytes.{page_in}
 use Rattle.model.specs.Room.{first_gap}
@@ -38,17 +37,12 @@ unfoldable pub gap_in : List ℕ → List ℕ → Currency → ℕ → List ℕ 
 gap_in t f cur n d x j =
     cond (is_detail t j n) (between_in t f j (occurrence_in t f cur j) (sort_key t j n d) 0) (record { before = x; after = x })
 
--- the neighbours that g says for each chain, set one by one from chain j on in k chains; as the code keeps them
-unfoldable pub places_from : (ℕ → Between) → Places → ℕ → ℕ → Places
-places_from g ps j zero = ps
-places_from g ps j (suc k) =
-    places_from g (record { before = set ps.before j (g j).before; after = set ps.after j (g j).after }) (j + 1) k
+-- the neighbours that g says for each chain, as the code keeps them
+unfoldable pub places_by : (ℕ → Between) → List Between
+places_by g = map g (run 0 16)
 
-unfoldable pub places_by : (ℕ → Between) → Places
-places_by g = places_from g (record { before = replicate 16 0; after = replicate 16 0 }) 0 16
-
-unfoldable pub place_at : Places → ℕ → Between
-place_at ps j = record { before = get_or ps.before j 0; after = get_or ps.after j 0 }
+unfoldable pub place_at : List Between → ℕ → Between
+place_at ps j = get_or ps j (record { before = 0; after = 0 })
 
 -- x linked between two in chain j, where its type is in it
 unfoldable pub entered_in : List ℕ → List ℕ → ℕ → ℕ → ℕ → Between → List ℕ

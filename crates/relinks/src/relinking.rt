@@ -1,4 +1,5 @@
 // RELINK: the run's record leaves its ring of a chain and joins another master's.
+// Its code stays a number, 0 where there is none: the currency's entry, the file format's own null.
 ghost use Rattle.std.specs.Prelude.{◌≡◌};
 ghost use Rattle.ledger.specs.Answers.{number_of};
 ghost use Rattle.model.specs.Keys.{sort_key_in};
@@ -25,6 +26,7 @@ pub fn relink_refusal(table: &[u16], file: &[u8], x: u32, j: u16, m: u32) -> Res
     if !words::is_detail(table, j, fields::kind_at(file, x)) {
         return Err(Refusal::WrongKind);
     }
+    // Type 0, no record, stays a number: `kind_in` says it so.
     let kind = fields::kind_at(file, m);
     if kind == 0 || !words::is_master(table, j, kind) {
         return Err(Refusal::NoRecord);
@@ -36,6 +38,7 @@ pub fn relink_refusal(table: &[u16], file: &[u8], x: u32, j: u16, m: u32) -> Res
 }
 
 // The neighbours of a record in its ring now.
+#[tactic(auto, unfolding(act_model::specs::Relinking::stands_in))]
 pub fn place_now(table: &[u16], file: &[u8], j: u16, x: u32) -> Between
     ensures { result ≡ stands_in table.now file.now j x }
 {
@@ -46,6 +49,7 @@ pub fn place_now(table: &[u16], file: &[u8], j: u16, x: u32) -> Between
 }
 
 // Moves record `x` of chain `j` from one place to another.
+#[tactic(auto, unfolding(act_model::specs::Relinking::moved_in))]
 pub fn move_to(table: &[u16], file: &mut [u8], j: u16, x: u32, old: Between, new: Between)
     ensures { moved_in table.now file.old j x old new ≡ file.new }
 {
@@ -61,6 +65,7 @@ fn place_under(table: &[u16], file: &[u8], j: u16, x: u32, m: u32) -> Between
 }
 
 // Carries a RELINK out.
+#[tactic(auto, unfolding(act_model::specs::Relinking::relinked_on))]
 pub fn relink_act(table: &[u16], file: &mut [u8], j: u16, x: u32, m: u32)
     ensures { relinked_on table.now file.old j x m ≡ file.new }
 {

@@ -1,17 +1,15 @@
 -- Where STORE places a record.
-use Prim.Native.Nat.{ℕ, zero, suc, ◌+◌, ◌-◌, ◌/◌, ◌<◌, ◌≤◌}
+use Prim.Native.Nat.{ℕ, zero, suc, ◌+◌, ◌-◌, ◌<◌}
 use mathlib.Core.Path.{◌≡◌, refl, sym, ◌∙◌}
 use mathlib.Core.Bool.{Bool, true, false}
 use mathlib.Core.List.{List, [], ◌∷◌, ◌++◌}
 use native.Mathlib.Omega.{arith}
-use borrow.Author.Tests.{eq-eqb, ne_eqb, lt-leb, le-leb}
-use lib.Dec.{ltb}
+use borrow.Author.Tests.{lt-leb}
 use Rattle.ledger.specs.declared.Currency.{Currency}
 use Rattle.ledger.specs.Numbers.{run, first_of, or_none}
-use Rattle.ledger.specs.Table.{row, class, low, high, via, calc_key}
-use Rattle.ledger.specs.Pages.{calc_at, link_at, record_size, home}
+use Rattle.ledger.specs.Table.{row, low, high}
+use Rattle.ledger.specs.Pages.{calc_at, link_at, record_size}
 use Rattle.ledger.specs.Bytes.{two_at, page_in}
-use Rattle.ledger.specs.Currency.{type_current}
 use Rattle.ledger.specs.Calls.{tried}
 use Rattle.ledger.proofs.Lists.Tests.{by_cases}
 use Rattle.ledger.proofs.Lists.Ranges.{range_as_run}
@@ -27,53 +25,7 @@ use Rattle.std.specs.List.{find, FoldsTo}
 use Rattle.std.specs.Option.{MatchOption, option_map}
 use denote.Param.Members.{Mut}
 use denote.Ref.{Bor}
-use Rattle.model.specs.declared.Gap.{Gap}
-use Rattle.model.specs.Room.{first_gap}
-use Rattle.act_model.specs.Placing.{occurrence_in, in_range, base_page_in, takes_in, place_for_in}
-
--- page_in_range
-module _ (t : List ℕ) (n p a b : ℕ) (ea : a ≡ low t (row t n)) (eb : b ≡ high t (row t n)) where
-  pub range_below : p < a → a ≡ in_range t n p
-  unfolding in_range
-  range_below h = rw (← ea, lt-leb a p h)
-
-  pub range_above : a ≤ p → b < p → a ≡ in_range t n p
-  unfolding in_range
-  range_above h k = rw (← ea, ← eb, le-leb a p h, lt-leb p b k)
-
-  pub range_within : a ≤ p → p ≤ b → p ≡ in_range t n p
-  unfolding in_range
-  range_within h k = rw (← ea, ← eb, le-leb a p h, le-leb p b k)
-
--- base_page
-module _ (t f : List ℕ) (cur : Currency) (n : ℕ) (d : List ℕ) (w r : ℕ) (ew : w ≡ class t (row t n)) where
-  pub base_calculated : (key : List ℕ) → w ≡ 2 → key ≡ calc_key t n d → r ≡ home t n key → r ≡ base_page_in t f cur n d
-  unfolding base_page_in
-  base_calculated key h ek er = rw (← ew, eq-eqb w 2 h, ← ek) er
-
-  module _ (n2 : w ≡ 2 → ⊥) where
-    pub base_secondary : (v m : ℕ) → w ≡ 1 → v ≡ via t (row t n) → m ≡ occurrence_in t f cur v → r ≡ in_range t n (m / 64) → r ≡ base_page_in t f cur n d
-    unfolding base_page_in
-    base_secondary v m h ev em er = rw (← ew, ne_eqb w 2 n2, eq-eqb w 1 h, ← ev, ← em) er
-
-    module _ (c : ℕ) (n1 : w ≡ 1 → ⊥) (ec : c ≡ type_current t cur n) where
-      pub base_lowest : c ≡ 0 → r ≡ low t (row t n) → r ≡ base_page_in t f cur n d
-      unfolding base_page_in
-      base_lowest h er = rw (← ew, ne_eqb w 2 n2, ne_eqb w 1 n1, ← ec, eq-eqb c 0 h) er
-
-      pub base_current : (c ≡ 0 → ⊥) → r ≡ c / 64 → r ≡ base_page_in t f cur n d
-      unfolding base_page_in
-      base_current h er = rw (← ew, ne_eqb w 2 n2, ne_eqb w 1 n1, ← ec, ne_eqb c 0 h) er
-
--- takes
-module _ (f page : List ℕ) (size p n : ℕ) (ep : page ≡ page_in f p) (en : n ≡ two_at page 3) where
-  pub takes_short : n < size → false ≡ takes_in f size p
-  unfolding takes_in
-  takes_short h = rw (← ep, ← en, lt-leb size n h)
-
-  pub takes_line : (gap : Gap) → size ≤ n → gap ≡ first_gap page → ltb 0 gap.line ≡ takes_in f size p
-  unfolding takes_in
-  takes_line gap h e = rw (← ep, ← en, le-leb size n h, e)
+use Rattle.act_model.specs.Placing.{base_page_in, takes_in, place_for_in}
 
 -- first_taking
 option_map_plain : {o : Option ℕ} (r : Option ℕ) → option_map (λ x. x) r ≡ o → r ≡ o

@@ -1,2 +1,0 @@
--- The laws behind RELINK's functions: one for each way out.
-pub mod Relinking
