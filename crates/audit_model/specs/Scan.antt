@@ -1,5 +1,5 @@
 -- The pages phase of the audit: what a scan of a file's bytes computes, page by page and line by line, and what its answer means.
-use Rattle.std.specs.Prelude.{ℕ, zero, suc, ◌+◌, ◌*◌, ◌-◌, ◌^◌, ◌≡◌, ◌↔◌, Bool, true, false, cond, ◌&&◌, List, [], length, get_or, eqb, ltb, leb}
+use Rattle.std.specs.Prelude.{ℕ, zero, suc, Option, None, ◌+◌, ◌*◌, ◌-◌, ◌^◌, ◌≡◌, ◌↔◌, Bool, true, false, cond, ◌&&◌, List, [], length, get_or, eqb, ltb, leb}
 use Rattle.ledger.specs.Numbers.{part}
 use Rattle.ledger.specs.Table.{pages, low, high, row, defined, Accepted}
 use Rattle.ledger.specs.Pages.{page_of, line_of, record_size}
@@ -64,5 +64,5 @@ unfoldable pub records_in : List ℕ → List ℕ → ℕ → List ℕ
 records_in t f x = cond (leb 1 (page_of x) && leb (page_of x) (pages t)) (record_from (page_part f (page_of x)) 63 16 (line_of x)) []
 
 -- What a scan's answer means: no fault exactly where the file is an image.
-abbrev pub ScanExact : List ℕ → List ℕ → ℕ → Type 0
-ScanExact t f answer = Accepted t → length f ≡ 512 * pages t → (answer ≡ 0) ↔ ((r : ℕ → List ℕ) × (h : ℕ → ℕ) × Imaged t f r h)
+abbrev pub ScanExact : List ℕ → List ℕ → Option ℕ → Type 0
+ScanExact t f answer = Accepted t → length f ≡ 512 * pages t → (answer ≡ None) ↔ ((r : ℕ → List ℕ) × (h : ℕ → ℕ) × Imaged t f r h)

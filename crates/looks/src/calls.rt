@@ -1,14 +1,19 @@
-// The calls that read, once refusals 1 to 4 are behind them.
+// The calls that read, once refusals 1 to 4 are behind them. Each takes the lent table and file and the currency by value, and no struct of
+// them: the forms that the specification names. Type 0 is that of no record, code 0 in a currency that of no current one: numbers, since
+// the definitions `kind_in` and `Currency` have them so, and the C interface too.
 ghost use Rattle.std.specs.Prelude.{◌≡◌};
 ghost use Rattle.ledger.specs.Numbers.{or_none};
 ghost use Rattle.ledger.specs.Answers.{outcome_of};
-ghost use Rattle.look_model.specs.Looks.{direct_on, reached_on, found_on, key_on, current_on, chain_start, find_on, next_on, prior_on, master_on, there_in, first_in, each_on, read_on};
+ghost use Rattle.model.specs.Reads.{kind_in};
+ghost use Rattle.look_model.specs.Currencies.{arrival};
+ghost use Rattle.look_model.specs.Looks.{direct_on, reached_on, key_on, current_on, chain_start, find_on, next_on, prior_on, master_on, there_in, first_in, each_on, read_on};
 
 use crate::currency;
 use change::copies;
 use ledger::{Answer, Currency, Outcome, Refusal};
 use model::Found;
 use page::fields;
+use table::order::Order;
 use table::{keys, words};
 
 // Codes of records: 64 to a page, from page 1 on, and the first past them.
@@ -36,20 +41,16 @@ fn reached(table: &[u16], file: &[u8], cur: Currency, code: u32) -> Outcome
     currency::arrive_at(table, cur, fields::kind_at(file, code), code, 0)
 }
 
-// What KEY and FIND answer of what they found.
-#[tactic(auto, unfolding(look_model::specs::Looks::found_on))]
-fn found(table: &[u16], file: &[u8], cur: Currency, f: Found) -> Result<Outcome, Refusal>
-    ensures { outcome_of result cur ≡ found_on table.now file.now cur f }
+// Arrives at a record that KEY or FIND found.
+fn found(table: &[u16], file: &[u8], cur: Currency, first: Found) -> Outcome
+    ensures { result ≡ arrival table.now cur (kind_in file.now first.code) first.code first.place }
 {
-    let code = f.code;
-    if code == 0 {
-        return Err(Refusal::NoRecord);
-    }
-    Ok(currency::arrive_at(table, cur, fields::kind_at(file, code), code, f.place))
+    let kind = fields::kind_at(file, first.code);
+    currency::arrive_at(table, cur, kind, first.code, first.place)
 }
 
 // KEY
-#[tactic(auto, unfolding(look_model::specs::Looks::key_on))]
+#[tactic(auto, using(crate::proofs::Laws::Calls::calc_lost, crate::proofs::Laws::Calls::calc_found), unfolding(look_model::specs::Looks::key_on))]
 pub fn key(
     table: &[u16],
     file: &[u8],
@@ -69,8 +70,8 @@ pub fn key(
         return Err(Refusal::BadLength);
     }
     let p = keys::home_page(table, kind, key);
-    let first = rings::find_calc(table, file, p, kind, key, 0);
-    found(table, file, cur, first)
+    let first = rings::find_calc(table, file, p, kind, key, 0).ok_or(Refusal::NoRecord)?;
+    Ok(found(table, file, cur, first))
 }
 
 // CURRENT
@@ -103,7 +104,7 @@ fn chain_start(table: &[u16], cur: Currency, j: u16) -> Result<u32, Refusal>
 }
 
 // FIND
-#[tactic(auto, unfolding(look_model::specs::Looks::find_on, look_model::specs::Looks::chain_start))]
+#[tactic(auto, using(table::proofs::Orders::sorts_order, crate::proofs::Laws::Calls::key_lost, crate::proofs::Laws::Calls::key_found), unfolding(look_model::specs::Looks::find_on, look_model::specs::Looks::chain_start))]
 pub fn find(
     table: &[u16],
     file: &[u8],
@@ -114,15 +115,15 @@ pub fn find(
     ensures { outcome_of result cur ≡ find_on table.now file.now cur j key.now }
 {
     let at = chain_start(table, cur, j)?;
-    if words::chain_word(table, j, words::ORDER) < 2 {
+    if !Order::of(table, j).is_sorted() {
         return Err(Refusal::WrongKind);
     }
     if key.len() != words::chain_word(table, j, words::SORT_LENGTH) as usize {
         return Err(Refusal::BadLength);
     }
     let m = rings::master_of(table, file, j, at);
-    let first = rings::find_key(table, file, j, m, key);
-    found(table, file, cur, first)
+    let first = rings::find_key(table, file, j, m, key).ok_or(Refusal::NoRecord)?;
+    Ok(found(table, file, cur, first))
 }
 
 // NEXT
@@ -157,14 +158,7 @@ pub fn master(table: &[u16], file: &[u8], cur: Currency, j: u16) -> Result<Outco
 fn is_there(file: &[u8], first: u32, last: u32, code: u32) -> bool
     ensures { result ≡ there_in file.now first last code }
 {
-    if code < first {
-        return false;
-    }
-    if last < code {
-        return false;
-    }
-    let kind = fields::kind_at(file, code);
-    kind != 0
+    (first..=last).contains(&code) && fields::kind_at(file, code) != 0
 }
 
 // The lowest such code.

@@ -6,6 +6,9 @@ ghost use Rattle.ledger.specs.declared.Refusal.TheVariants.{Damaged};
 
 use ledger::Refusal;
 
+// Each code of the largest file, 128 pages of 64 lines, is lower: so many marks there are, and a walk in a ring takes no more steps.
+pub const CODES: u16 = 8256;
+
 // A free line of a page, and where its record would start; line 0 where all are used.
 #[derive(Clone, Copy)]
 pub struct Gap {

@@ -29,15 +29,16 @@ pub(crate) fn bytes_at<const N: usize>(f: &[u8], i: usize) -> [u8; N]
 pub fn two_at(f: &[u8], i: usize) -> u16
     ensures { result ≡ two_at f.now i }
 {
-    u16::from_be_bytes(bytes_at(f, i))
+    let rest = rest_of(f, i);
+    u16::from_be_bytes([byte_at(rest, 0), byte_at(rest, 1)])
 }
 
 // The number in the three bytes from `i` on.
 pub fn three_at(f: &[u8], i: usize) -> u32
     ensures { result ≡ three_at f.now i }
 {
-    let [high, middle, low] = bytes_at::<3>(f, i);
-    u32::from_be_bytes([0, high, middle, low])
+    let rest = rest_of(f, i);
+    u32::from_be_bytes([0, byte_at(rest, 0), byte_at(rest, 1), byte_at(rest, 2)])
 }
 
 // The number in the three bytes from `o + k` on.

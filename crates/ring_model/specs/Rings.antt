@@ -1,5 +1,5 @@
 -- Walks round rings in any bytes `f`, as the code goes them; `m` is a ring's master, and `x` a record that is passed over (0: none).
-use Rattle.std.specs.Prelude.{ℕ, zero, suc, ◌+◌, ◌*◌, ◌%◌, Bool, true, false, cond, not, ◌&&◌, List, eqb, leb}
+use Rattle.std.specs.Prelude.{ℕ, zero, suc, ◌+◌, ◌*◌, ◌%◌, Bool, true, false, cond, not, ◌&&◌, List, Option, Some, None, eqb, leb}
 use Rattle.ledger.specs.Numbers.{less_key, same_key}
 use Rattle.ledger.specs.Table.{order, duplicates, linked_prior, calculated, is_master, calc_key}
 use Rattle.ledger.specs.Pages.{line_of, home}
@@ -69,6 +69,9 @@ has_key_in t f j key x c = not (eqb c x) && same_key (sort_key_in t f j c) key
 
 abbrev pub not_found : Found
 not_found = record { code = 0; place = 0 }
+
+unfoldable pub found_or_none : Found → Option Found
+found_or_none r = cond (eqb r.place 0) None (Some r)
 
 -- along a ring's `next` from `at` on: the first that passes before home, and its place, the links followed to it
 unfoldable pub found_from : (ℕ → ℕ) → (ℕ → Bool) → (ℕ → Bool) → ℕ → ℕ → ℕ → Found

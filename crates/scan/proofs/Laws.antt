@@ -1,2 +1,2 @@
--- The laws behind the pages phase: one for each way out and each turn of a loop.
+-- The laws behind the scan.
 pub mod Pages

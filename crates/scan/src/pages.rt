@@ -1,142 +1,97 @@
-// The pages phase: what a page's bytes and the table show.
-ghost use Rattle.std.specs.Prelude.{◌≡◌, ◌-◌};
-ghost use Rattle.audit_model.specs.Scan.{stands, taken, flag_of, zeros_from, ends, lines_in, scan_page, scan, ScanExact};
+// The pages phase: what a page's bytes and the table show. The table is lent as words and a page handed as a part of the file, with no
+// struct about them: forms of the project (docs/PROOFS.md, "The forms").
+ghost use Rattle.std.specs.Prelude.{◌≡◌, unwrap_or};
+ghost use Rattle.ledger.specs.Numbers.{or_none};
+ghost use Rattle.audit_model.specs.Scan.{stands, taken, zeros_from, ends, lines_in, scan_page, scan, ScanExact};
 
 use page::{bytes, lookup, room};
 use table::{sizes, words};
 
 // Whether a record of a type has its type's size and may stand on page `p`.
+#[tactic(auto, unfolding(audit_model::specs::Scan::stands))]
 fn may_stand(table: &[u16], kind: u16, size: u16, p: u16) -> bool
     ensures { result ≡ stands table.now kind size p }
 {
-    if !words::is_defined(table, kind) {
-        return false;
-    }
-    if size as u32 != sizes::record_size(table, kind) {
-        return false;
-    }
-    if p < words::kind_word(table, kind, words::LOW_PAGE) {
-        return false;
-    }
-    let high = words::kind_word(table, kind, words::HIGH_PAGE);
-    p <= high
+    words::is_defined(table, kind)
+        && size as u32 == sizes::record_size(table, kind)
+        && words::kind_word(table, kind, words::LOW_PAGE) <= p
+        && p <= words::kind_word(table, kind, words::HIGH_PAGE)
 }
 
-// The bytes that `line` takes from `at` on: 0 where no record of it begins there, 65535 where one does that may not stand.
-fn taken_at(table: &[u16], page: &[u8], p: u16, at: u32, line: u8) -> u16
-    ensures { result ≡ taken table.now page.now p at line }
+// The bytes that `line` takes from `at` on: 0 where no record of it begins there, None where one does that may not stand.
+#[tactic(auto, unfolding(audit_model::specs::Scan::taken))]
+fn taken_at(table: &[u16], page: &[u8], p: u16, at: usize, line: u8) -> Option<u16>
+    ensures { unwrap_or result 65535 ≡ taken table.now page.now p at line }
 {
-    if lookup::line_at(page, at as usize) != line {
-        return 0;
+    if lookup::line_at(page, at) != line {
+        return Some(0);
     }
-    let kind = bytes::two_at(page, at as usize);
-    let size = lookup::size_at(page, at as usize);
-    if may_stand(table, kind, size, p) {
-        return size;
-    }
-    65535
+    let kind = bytes::two_at(page, at);
+    let size = lookup::size_at(page, at);
+    may_stand(table, kind, size, p).then_some(size)
 }
 
-// The flag of a line that takes `s` bytes.
-fn flag_of(s: u16, bit: u64) -> u64
-    ensures { result ≡ flag_of s bit }
-{
-    if 0 < s { bit } else { 0 }
-}
-
-// Whether `n` bytes from `at` on are 0.
-fn zeros_from(page: &[u8], at: u32, n: u32) -> bool
+// Whether the `n` bytes from `at` on are 0, as far as there are any.
+fn zeros_from(page: &[u8], at: usize, n: usize) -> bool
     ensures { result ≡ zeros_from page.now at n }
 {
-    let mut i = at as usize;
-    let mut left = n;
-    while 0 < left {
-        if bytes::byte_at(page, i) != 0 {
-            return false;
-        }
-        i += 1;
-        left -= 1;
-    }
-    true
-}
-
-// The bytes from `at` to the end of a page.
-fn room_after(at: u32) -> u32
-    ensures { result ≡ 512 - at }
-{
-    if at < 512 { 512 - at } else { 0 }
+    bytes::part_of(page, at, n).iter().all(|byte| *byte == 0)
 }
 
 // Whether a page whose last record ends at `at` ends with zeros and has those counts.
-fn ends_well(page: &[u8], at: u32, bits: u64) -> bool
-    ensures { result ≡ ends page.now at bits }
+#[tactic(auto, unfolding(audit_model::specs::Scan::ends))]
+fn ends_well(page: &[u8], at: usize, flags: u64) -> bool
+    ensures { result ≡ ends page.now at flags }
 {
-    let free = room_after(at);
-    if !zeros_from(page, at, free) {
-        return false;
-    }
-    if room::free_bytes(page) as u32 != free {
-        return false;
-    }
-    let flags = room::flags_at(page);
-    flags == bits
+    let free = lookup::PAGE_BYTES.saturating_sub(at);
+    zeros_from(page, at, free)
+        && room::free_bytes(page) as usize == free
+        && room::flags_at(page) == flags
 }
 
 // Whether the records of a page stand as the table says, line by line, and its end and counts fit them.
 fn scan_lines(table: &[u16], page: &[u8], p: u16) -> bool
     ensures { result ≡ lines_in table.now page.now p }
 {
-    let mut at: u32 = 16;
-    let mut bits: u64 = 1;
-    // The flag of the line before: doubled in the turn, so that the last, 2^63, is the highest.
-    let mut half: u64 = 1;
-    let mut line: u8 = 1;
-    let mut left: u8 = 63;
-    while 0 < left {
-        let s = taken_at(table, page, p, at, line);
-        at += s as u32;
-        if 512 < at {
+    let mut at = lookup::HEADER_BYTES;
+    let mut flags: u64 = 1;
+    for line in 1..64u8 {
+        let Some(size) = taken_at(table, page, p, at, line) else {
+            return false;
+        };
+        at += size as usize;
+        if lookup::PAGE_BYTES < at {
             return false;
         }
-        half *= 2;
-        let flag = flag_of(s, half);
-        bits += flag;
-        line += 1;
-        left -= 1;
+        if 0 < size {
+            flags += 1u64 << line;
+        }
     }
-    ends_well(page, at, bits)
+    ends_well(page, at, flags)
 }
 
 // Whether a page, handed as a part of the file, is page `p` of a file under the table.
+#[tactic(auto, unfolding(audit_model::specs::Scan::scan_page))]
 pub fn scan_page(table: &[u16], page: &[u8], p: u16) -> bool
     ensures { result ≡ scan_page table.now page.now p }
 {
-    let own = bytes::three_at(page, 0);
-    if own != 64 * (p as u32) {
-        return false;
-    }
-    scan_lines(table, page, p)
+    bytes::three_at(page, 0) == 64 * (p as u32) && scan_lines(table, page, p)
 }
 
-// The lowest faulty page of a file, or 0. Under an accepted table and in a file of its size it is 0 exactly where every page is the
+// The lowest faulty page of a file. Under an accepted table and in a file of its size there is none exactly where every page is the
 // layout of records that stand as the table says; rings and keys are for later phases.
-pub fn faulty_page(table: &[u16], file: &[u8]) -> u16
-    ensures computed { result ≡ scan table.now file.now }
+pub fn faulty_page(table: &[u16], file: &[u8]) -> Option<u16>
+    ensures computed { result ≡ or_none (scan table.now file.now) }
     ensures exactly { ScanExact table.now file.now result }
 {
-    let mut p: u16 = 0;
-    let mut left = words::word(table, words::PAGES);
-    while 0 < left {
-        p += 1;
-        left -= 1;
-        let end = lookup::PAGE_BYTES * (p as usize);
-        if file.len() < end {
-            return p;
-        }
-        let start = end - lookup::PAGE_BYTES;
-        if !scan_page(table, &file[start..end], p) {
-            return p;
+    for p in 1..=words::word(table, words::PAGES) {
+        let start = lookup::PAGE_BYTES * (p as usize - 1);
+        let Some(page) = file.get(start..start + lookup::PAGE_BYTES) else {
+            return Some(p);
+        };
+        if !scan_page(table, page, p) {
+            return Some(p);
         }
     }
-    0
+    None
 }

@@ -1,113 +1,94 @@
 // The CALC rings: each header's walk comes home through unmet calculated records whose home its page is, and none is left unmet.
-ghost use Rattle.std.specs.Prelude.{◌≡◌, ◌*◌};
-ghost use Rattle.ledger.specs.Numbers.{run, first_of};
-ghost use Rattle.ledger.specs.Table.{pages};
-ghost use Rattle.audit_model.specs.Marks.{sweep_on};
+ghost use Rattle.std.specs.Prelude.{◌≡◌, true};
+ghost use Rattle.ledger.specs.Numbers.{or_none};
 ghost use Rattle.audit_model.specs.Calcs.{home_in, calc_met_in, head_walks, calc_unmet_in, calc_fault_in};
 
-use crate::chains;
+use crate::walks::{self, Ring, Rings};
 use page::{bytes, fields};
 use table::{keys, words};
 
-// The home page of a code's record: 0 where it is not calculated or not there.
+// The home page of a code's record: 0, which is no page, where it is not calculated or not there. A number and no Option: under a table
+// that breaks the rules 0 may be a home, and `calc_met_in` and `calc_unmet_in` compare with it.
+#[tactic(auto, unfolding(audit_model::specs::Calcs::home_in))]
 fn home_at(table: &[u16], file: &[u8], code: u32) -> u32
     ensures { result ≡ home_in table.now file.now code }
 {
     let kind = fields::kind_at(file, code);
-    if kind == 0 {
-        return 0;
-    }
-    if !words::is_calculated(table, kind) {
+    if kind == 0 || !words::is_calculated(table, kind) {
         return 0;
     }
     keys::home_page(table, kind, page::keys::calc_key_at(table, file, code))
 }
 
-// The code after `at` in page `p`'s CALC ring, where `at` is an unmet record of that home; else 0.
-fn met(table: &[u16], file: &[u8], marks: &[u8], p: u32, at: u32) -> u32
-    ensures { result ≡ calc_met_in table.now file.now p marks.now at }
-{
-    if bytes::byte_at(marks, at as usize) != 0 {
-        return 0;
-    }
-    if home_at(table, file, at) != p {
-        return 0;
-    }
-    fields::calc_next_at(table, file, at)
+// The CALC ring of a page.
+#[derive(Clone, Copy)]
+struct Homed<'a> {
+    table: &'a [u16],
+    file: &'a [u8],
+    page: u32,
 }
 
-// Whether the walk from page `p`'s header comes home; what it meets is marked.
-fn walk_home(table: &[u16], file: &[u8], marks: &mut [u8], p: u32) -> bool
-    ensures { head_walks table.now file.now p marks.old ≡ (result, marks.new) }
-{
-    let head = 64 * (p % 65536);
-    let mut at = fields::head_next(file, p);
-    let mut left = chains::FUEL;
-    while 0 < left {
-        if at == head {
-            return true;
+impl Ring for Homed<'_> {
+    ghost met = { λ r g last at. calc_met_in r.table.now r.file.now r.page g at };
+
+    ghost back = { λ r last. true };
+
+    // A record of that home may be met once.
+    #[tactic(auto, using(ledger::proofs::Lists::Nones::none_is), unfolding(audit_model::specs::Calcs::calc_met_in))]
+    fn next(&self, marks: &[u8], _last: u32, at: u32) -> Option<u32> {
+        if bytes::byte_at(marks, at as usize) != 0
+            || home_at(self.table, self.file, at) != self.page
+        {
+            return None;
         }
-        let next = met(table, file, marks, p, at);
-        if next == 0 {
-            return false;
-        }
-        chains::mark(marks, at);
-        at = next;
-        left -= 1;
+        walks::link(fields::calc_next_at(self.table, self.file, at))
     }
-    false
+
+    // There are no PRIORs.
+    fn closes(&self, _last: u32) -> bool {
+        true
+    }
 }
 
-// The lowest page whose header's walk fails, or 0.
-fn astray(table: &[u16], file: &[u8], marks: &mut [u8]) -> u32
-    ensures { sweep_on (head_walks table.now file.now) (run 1 (pages table.now)) marks.old ≡ (result, marks.new) }
-{
-    let mut p: u32 = 1;
-    let mut left = words::word(table, words::PAGES);
-    while 0 < left {
-        if !walk_home(table, file, marks, p) {
-            return p;
-        }
-        p += 1;
-        left -= 1;
-    }
-    0
+// The CALC rings of all pages.
+#[derive(Clone, Copy)]
+struct Homes<'a> {
+    table: &'a [u16],
+    file: &'a [u8],
 }
 
-// Whether a code is a calculated record without mark.
-fn is_unmet(table: &[u16], file: &[u8], marks: &[u8], code: u32) -> bool
-    ensures { result ≡ calc_unmet_in table.now file.now marks.now code }
-{
-    if bytes::byte_at(marks, code as usize) != 0 {
-        return false;
+impl Rings for Homes<'_> {
+    ghost walks = { λ r p g. head_walks r.table.now r.file.now p g };
+
+    ghost unmet = { λ r g code. calc_unmet_in r.table.now r.file.now g code };
+
+    // A ring starts at each page's header.
+    #[tactic(auto, unfolding(audit_model::specs::Calcs::head_walks, audit_model::specs::Calcs::calc_walk_on))]
+    fn walk(&self, marks: &mut [u8], start: u32) -> bool {
+        let ring = Homed {
+            table: self.table,
+            file: self.file,
+            page: start,
+        };
+        let first = fields::head_next(self.file, start);
+        walks::walk_home(&ring, marks, 64 * (start % 65536), 0, first)
     }
-    home_at(table, file, code) != 0
+
+    #[tactic(auto, unfolding(audit_model::specs::Calcs::calc_unmet_in))]
+    fn is_unmet(&self, marks: &[u8], code: u32) -> bool {
+        bytes::byte_at(marks, code as usize) == 0 && home_at(self.table, self.file, code) != 0
+    }
 }
 
-// The lowest calculated record without mark, or 0.
-fn unmet(table: &[u16], file: &[u8], marks: &[u8]) -> u32
-    ensures { result ≡ first_of (calc_unmet_in table.now file.now marks.now) (run 64 (64 * pages table.now)) }
+// The place of the first fault of the CALC rings, a header as 64 x page.
+pub fn calc_fault(table: &[u16], file: &[u8]) -> Option<u32>
+    ensures { result ≡ or_none (calc_fault_in table.now file.now) }
 {
-    let mut code: u32 = 64;
-    let mut left = 64 * (words::word(table, words::PAGES) as u32);
-    while 0 < left {
-        if is_unmet(table, file, marks, code) {
-            return code;
-        }
-        code += 1;
-        left -= 1;
+    let pages = words::word(table, words::PAGES);
+    let rings = Homes { table, file };
+    let mut marks = [0u8; walks::MARKS];
+    match walks::astray(&rings, &mut marks, 1, pages as u32 + 1) {
+        Some(page) => Some(64 * page),
+        None => walks::unmet(&rings, &marks, pages),
     }
-    0
-}
-
-// The place of the first fault of the CALC rings, a header as 64 x page, or 0.
-pub fn calc_fault(table: &[u16], file: &[u8]) -> u32
-    ensures { result ≡ calc_fault_in table.now file.now }
-{
-    let mut marks = [0u8; chains::MARKS];
-    let lost = astray(table, file, &mut marks);
-    if lost != 0 {
-        return 64 * (lost % 65536);
-    }
-    unmet(table, file, &marks)
 }

@@ -1,182 +1,134 @@
 // The rings of a chain: each master's walk along NEXT comes home through unmet details, PRIOR undoes NEXT, and no detail is left unmet.
-ghost use Rattle.std.specs.Prelude.{◌≡◌, ◌*◌, set};
-ghost use Rattle.ledger.specs.Numbers.{run, first_of};
-ghost use Rattle.audit_model.specs.Marks.{sweep_on};
-ghost use Rattle.audit_model.specs.Chains.{ends_of, prior_is, back_home, met_in, walk_home, code_walks, unmet_in, chain_fault_in, ring_fault_in};
+ghost use Rattle.std.specs.Prelude.{◌≡◌, ◌+◌};
+ghost use Rattle.ledger.specs.Numbers.{or_none};
+ghost use Rattle.audit_model.specs.Chains.{ends_of, prior_is, met_in, code_walks, unmet_in, chain_fault_in, ring_fault_in};
 
+use crate::walks::{self, Ring, Rings};
 use model::Ends;
-use page::{bytes, fields, lookup, writes};
+use page::{bytes, fields, lookup};
 use table::{sizes, words};
 
-// One mark a code of the largest file.
-pub const MARKS: usize = 8256;
-
-// A walk takes no more steps.
-pub const FUEL: u16 = 8256;
-
+#[tactic(auto, unfolding(audit_model::specs::Chains::ends_of))]
 fn ends_of(table: &[u16], j: u16) -> Ends
     ensures { result ≡ ends_of table.now j }
 {
     let master = words::chain_word(table, j, words::MASTER_TYPE);
     let detail = words::chain_word(table, j, words::DETAIL_TYPE);
-    let linked = words::chain_word(table, j, words::LINKED_PRIOR) == 1;
     Ends {
         master,
         detail,
         above: sizes::link_at(table, master, j),
         below: sizes::link_at(table, detail, j),
-        linked,
+        linked: words::chain_word(table, j, words::LINKED_PRIOR) == 1,
     }
 }
 
 // Whether the PRIOR that stands behind a NEXT, `k` bytes into the record that starts at `s`, is `last`, where there are PRIORs.
+#[tactic(auto, unfolding(audit_model::specs::Chains::prior_is))]
 fn prior_is(file: &[u8], linked: bool, s: usize, k: u32, last: u32) -> bool
     ensures { result ≡ prior_is file.now linked s k last }
 {
-    if !linked {
-        return true;
-    }
-    let prior = bytes::three_off(file, s, k as usize + 3);
-    prior == last
+    !linked || bytes::three_off(file, s, k as usize + 3) == last
 }
 
-// The code after `at`, where `at` is an unmet detail whose PRIOR is `last`; else 0.
-fn met(file: &[u8], ends: Ends, marks: &[u8], last: u32, at: u32) -> u32
-    ensures { result ≡ met_in file.now ends marks.now last at }
-{
-    let s = lookup::find(file, at);
-    if s == 0 {
-        return 0;
-    }
-    if bytes::two_at(file, s) != ends.detail {
-        return 0;
-    }
-    if bytes::byte_at(marks, at as usize) != 0 {
-        return 0;
-    }
-    if !prior_is(file, ends.linked, s, ends.below, last) {
-        return 0;
-    }
-    bytes::three_off(file, s, ends.below as usize)
+// The ring of a master whose record starts at `start`.
+#[derive(Clone, Copy)]
+struct Details<'a> {
+    file: &'a [u8],
+    ends: Ends,
+    start: usize,
 }
 
-// Whether master `m`'s PRIOR is `last`, where there are PRIORs.
-fn back_home(file: &[u8], ends: Ends, m: u32, last: u32) -> bool
-    ensures { result ≡ back_home file.now ends m last }
-{
-    prior_is(file, ends.linked, lookup::find(file, m), ends.above, last)
-}
+impl Ring for Details<'_> {
+    ghost met = { λ r g last at. met_in r.file.now r.ends g last at };
 
-pub fn mark(marks: &mut [u8], code: u32)
-    ensures { set marks.old code 1 ≡ marks.new }
-{
-    writes::put_byte(marks, code as usize, 1);
-}
+    ghost back = { λ r last. prior_is r.file.now r.ends.linked r.start r.ends.above last };
 
-// Whether the walk from master `m` comes home; what it meets is marked.
-fn walk_home(file: &[u8], ends: Ends, marks: &mut [u8], m: u32) -> bool
-    ensures { walk_home file.now ends m marks.old ≡ (result, marks.new) }
-{
-    let mut last = m;
-    let mut at = bytes::three_off(file, lookup::find(file, m), ends.above as usize);
-    let mut left = FUEL;
-    while 0 < left {
-        if at == m {
-            return back_home(file, ends, m, last);
+    // A detail may be met once, if its PRIOR is `last`.
+    #[tactic(auto, using(ledger::proofs::Lists::Nones::zero_of_none, ledger::proofs::Lists::Nones::value_of_some, ledger::proofs::Lists::Nones::some_not_zero, ledger::proofs::Lists::Nones::none_is), unfolding(audit_model::specs::Chains::met_in))]
+    fn next(&self, marks: &[u8], last: u32, at: u32) -> Option<u32> {
+        let s = lookup::find(self.file, at)?;
+        if bytes::two_at(self.file, s) != self.ends.detail
+            || bytes::byte_at(marks, at as usize) != 0
+            || !prior_is(self.file, self.ends.linked, s, self.ends.below, last)
+        {
+            return None;
         }
-        let next = met(file, ends, marks, last, at);
-        if next == 0 {
-            return false;
+        walks::link(bytes::three_off(self.file, s, self.ends.below as usize))
+    }
+
+    fn closes(&self, last: u32) -> bool {
+        prior_is(
+            self.file,
+            self.ends.linked,
+            self.start,
+            self.ends.above,
+            last,
+        )
+    }
+}
+
+// The rings of a chain.
+#[derive(Clone, Copy)]
+struct Chain<'a> {
+    file: &'a [u8],
+    ends: Ends,
+}
+
+impl Rings for Chain<'_> {
+    ghost walks = { λ r code g. code_walks r.file.now r.ends code g };
+
+    ghost unmet = { λ r g code. unmet_in r.file.now r.ends.detail g code };
+
+    // A ring starts at each master.
+    #[tactic(auto, using(ledger::proofs::Lists::Nones::unwrap_or_none), unfolding(audit_model::specs::Chains::code_walks, audit_model::specs::Chains::walk_home, audit_model::specs::Chains::back_home))]
+    fn walk(&self, marks: &mut [u8], start: u32) -> bool {
+        if fields::kind_at(self.file, start) != self.ends.master {
+            return true;
         }
-        mark(marks, at);
-        last = at;
-        at = next;
-        left -= 1;
+        // Where the table has no such type, the ring is read from the file's start.
+        let at = lookup::find(self.file, start).unwrap_or(0);
+        let ring = Details {
+            file: self.file,
+            ends: self.ends,
+            start: at,
+        };
+        let first = bytes::three_off(self.file, at, self.ends.above as usize);
+        walks::walk_home(&ring, marks, start, start, first)
     }
-    false
+
+    #[tactic(auto, unfolding(audit_model::specs::Chains::unmet_in))]
+    fn is_unmet(&self, marks: &[u8], code: u32) -> bool {
+        bytes::byte_at(marks, code as usize) == 0
+            && fields::kind_at(self.file, code) == self.ends.detail
+    }
 }
 
-// Whether a code is no master, or its walk comes home.
-fn code_walks(file: &[u8], ends: Ends, marks: &mut [u8], code: u32) -> bool
-    ensures { code_walks file.now ends code marks.old ≡ (result, marks.new) }
-{
-    if fields::kind_at(file, code) != ends.master {
-        return true;
-    }
-    walk_home(file, ends, marks, code)
-}
-
-// The lowest master of the chain whose walk fails, or 0; all that walks meet is marked.
-fn astray(file: &[u8], ends: Ends, marks: &mut [u8], pages: u16) -> u32
-    ensures { sweep_on (code_walks file.now ends) (run 64 (64 * pages)) marks.old ≡ (result, marks.new) }
-{
-    let mut code: u32 = 64;
-    let mut left = 64 * (pages as u32);
-    while 0 < left {
-        if !code_walks(file, ends, marks, code) {
-            return code;
-        }
-        code += 1;
-        left -= 1;
-    }
-    0
-}
-
-// Whether a code is a record of type `detail` without mark.
-fn is_unmet(file: &[u8], detail: u16, marks: &[u8], code: u32) -> bool
-    ensures { result ≡ unmet_in file.now detail marks.now code }
-{
-    if bytes::byte_at(marks, code as usize) != 0 {
-        return false;
-    }
-    let kind = fields::kind_at(file, code);
-    kind == detail
-}
-
-// The lowest record of type `detail` without mark, or 0.
-fn unmet(file: &[u8], detail: u16, marks: &[u8], pages: u16) -> u32
-    ensures { result ≡ first_of (unmet_in file.now detail marks.now) (run 64 (64 * pages)) }
-{
-    let mut code: u32 = 64;
-    let mut left = 64 * (pages as u32);
-    while 0 < left {
-        if is_unmet(file, detail, marks, code) {
-            return code;
-        }
-        code += 1;
-        left -= 1;
-    }
-    0
-}
-
-// The place of chain `j`'s first ring fault, or 0.
-fn chain_fault(table: &[u16], file: &[u8], j: u16) -> u32
-    ensures { result ≡ chain_fault_in table.now file.now j }
+// The place of chain `j`'s first ring fault.
+fn chain_fault(table: &[u16], file: &[u8], j: u16) -> Option<u32>
+    ensures { result ≡ or_none (chain_fault_in table.now file.now j) }
 {
     let pages = words::word(table, words::PAGES);
-    let ends = ends_of(table, j);
-    let detail = ends.detail;
-    let mut marks = [0u8; MARKS];
-    let lost = astray(file, ends, &mut marks, pages);
-    if lost != 0 {
-        return lost;
+    let rings = Chain {
+        file,
+        ends: ends_of(table, j),
+    };
+    let mut marks = [0u8; walks::MARKS];
+    match walks::astray(&rings, &mut marks, 64, 64 + 64 * pages as u32) {
+        Some(code) => Some(code),
+        None => walks::unmet(&rings, &marks, pages),
     }
-    unmet(file, detail, &marks, pages)
 }
 
-// The place of the first ring fault of the chains in their order, or 0.
-pub fn first_fault(table: &[u16], file: &[u8]) -> u32
-    ensures { result ≡ ring_fault_in table.now file.now }
+// The place of the first ring fault of the chains in their order.
+pub fn first_fault(table: &[u16], file: &[u8]) -> Option<u32>
+    ensures { result ≡ or_none (ring_fault_in table.now file.now) }
 {
-    let mut j: u16 = 0;
-    let mut chains_left = words::word(table, words::CHAINS);
-    while 0 < chains_left {
-        let fault = chain_fault(table, file, j);
-        if fault != 0 {
-            return fault;
+    let chains = words::word(table, words::CHAINS);
+    for j in 0..chains {
+        if let Some(place) = chain_fault(table, file, j) {
+            return Some(place);
         }
-        j += 1;
-        chains_left -= 1;
     }
-    0
+    None
 }

@@ -3,3 +3,4 @@
 
 pub mod calcs;
 pub mod chains;
+mod walks;

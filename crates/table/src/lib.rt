@@ -2,6 +2,7 @@
 #![tactic(auto)]
 
 pub mod keys;
+pub mod order;
 pub mod rules;
 pub mod sizes;
 pub mod words;

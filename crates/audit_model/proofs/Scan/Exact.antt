@@ -9,12 +9,14 @@ use lib.ListN.{length, get_or, drop, length-drop}
 use lib.Seq.{length-take-le}
 use lib.Dec.{leb, ltb}
 use borrow.Author.Tests.{le-leb, leb-true, leb-false, le-ltb}
-use Rattle.ledger.specs.Numbers.{run, sum_of}
+use Rattle.std.specs.Prelude.{Option}
+use Rattle.ledger.specs.Numbers.{run, sum_of, or_none}
 use Rattle.ledger.specs.Table.{pages, Accepted}
 use Rattle.ledger.specs.Pages.{code_of, page_of, line_of, Ledger, used, page, laid, record_bytes, head_next, Sound}
 use Rattle.ledger.specs.Bytes.{three_at}
 use Rattle.ledger.specs.Image.{Standing, Imaged}
 use Rattle.ledger.specs.Audit.{Audited}
+use Rattle.ledger.proofs.Lists.Nones.{zero_of_none, or_none-zero}
 use Rattle.ledger.proofs.Lists.Tests.{by_cases, both, same_or_not}
 use Rattle.ledger.proofs.Lists.Runs.{sum_of_same, sum_of_most}
 use Rattle.ledger.proofs.Lists.Parts.{part_bytes}
@@ -151,5 +153,7 @@ module _ (t f : List ℕ) (a : Accepted t) (small : (i : ℕ) → get_or f i 0 <
       back e w = let q = (audited e).1 w in (q.0, record { formed = q.1.formed; bytes = (clean_imaged t f small long e).bytes ∙ q.1.bytes })
 
 -- what an answer that is the scan's means
-pub scan_means : (t f : List ℕ) (answer : ℕ) → ((i : ℕ) → get_or f i 0 < 256) → answer ≡ scan t f → ScanExact t f answer
-scan_means t f answer small e a long = rw e (scan_exactly t f a small long)
+pub scan_means : (t f : List ℕ) (answer : Option ℕ) → ((i : ℕ) → get_or f i 0 < 256) → answer ≡ or_none (scan t f) → ScanExact t f answer
+scan_means t f answer small e a long =
+    let s = scan_exactly t f a small long in
+    (λ none. s.0 (zero_of_none (scan t f) e none), λ i. rw e (or_none-zero (s.1 i)))

@@ -1,101 +1,65 @@
 -- The order of sorted rings.
-use Prim.Native.Nat.{ℕ, ◌*◌, ◌-◌, ◌<◌, ◌≤◌}
-use mathlib.Core.Path.{◌≡◌}
+use Prim.Native.Nat.{ℕ, ◌+◌, ◌*◌, ◌-◌, ◌<◌, ◌≤◌}
+use mathlib.Core.Path.{◌≡◌, sym, ◌∙◌}
 use mathlib.Core.Bool.{Bool, true, false, not}
 use mathlib.Core.List.{List}
-use borrow.Author.Tests.{eq-eqb, ne_eqb, lt-ltb, le-ltb, not-true, not-false}
-use Rattle.ledger.specs.Numbers.{run, first_of, less_key, same_key}
-use Rattle.ledger.specs.Table.{pages, chains, order, duplicates, is_master}
-use Rattle.model.specs.Reads.{kind_in, next_in}
-use Rattle.model.specs.Keys.{sort_key_in}
+use native.Mathlib.Omega.{arith}
+use lib.Dec.{ltb}
+use borrow.Author.Tests.{eq-eqb, ne_eqb, not-true, not-false}
+use Rattle.std.specs.Prelude.{Option, None}
+use Rattle.ledger.specs.Numbers.{or_none, run, first_of}
+use Rattle.ledger.specs.Table.{pages, chains, order}
+use Rattle.ledger.proofs.Lists.Nones.{none_is}
+use Rattle.table.specs.declared.order.Order.{Order}
+use Rattle.table.specs.Orders.{order_of, sorts}
+use Rattle.table.proofs.Orders.{sorts_order}
+use Rattle.model.specs.Reads.{next_in}
 use Rattle.audit_model.specs.Marks.{first_fault}
-use Rattle.audit_model.specs.Orders.{refused_twins, keys_in_order, in_order_in, ordered_from, ring_ordered_in, disordered_in, disorder_in, order_fault_in}
-use Rattle.sweeps.proofs.Laws.Marks.{out, turn}
-
--- refused_twins and keys_in_order
-module _ (d : ℕ) (a b : List ℕ) where
-  pub twins_allowed : (d ≡ 2 → ⊥) → false ≡ refused_twins d a b
-  unfolding refused_twins
-  twins_allowed ne = rw (ne_eqb d 2 ne)
-
-  pub twins_refused : (r : Bool) → d ≡ 2 → r ≡ same_key a b → r ≡ refused_twins d a b
-  unfolding refused_twins
-  twins_refused r e er = rw (eq-eqb d 2 e) er
-
-  module _ (o : ℕ) (m : Bool) (em : m ≡ refused_twins d a b) where
-    pub keys_twins : m ≡ true → false ≡ keys_in_order o d a b
-    unfolding keys_in_order
-    keys_twins e = rw (← em, e)
-
-    pub keys_rising : (r : Bool) → m ≡ false → o ≡ 2 → r ≡ less_key b a → not r ≡ keys_in_order o d a b
-    unfolding keys_in_order
-    keys_rising r e eo er = rw (← em, e, eq-eqb o 2 eo, er)
-
-    pub keys_falling : (r : Bool) → m ≡ false → (o ≡ 2 → ⊥) → r ≡ less_key a b → not r ≡ keys_in_order o d a b
-    unfolding keys_in_order
-    keys_falling r e ne er = rw (← em, e, ne_eqb o 2 ne, er)
-
--- in_order
-pub in_order : (t f : List ℕ) (j x y o d : ℕ) (a b : List ℕ) (r : Bool) → r ≡ keys_in_order o d a b → o ≡ order t j → d ≡ duplicates t j
-    → a ≡ sort_key_in t f j x → b ≡ sort_key_in t f j y → r ≡ in_order_in t f j x y
-unfolding in_order_in
-in_order t f j x y o d a b r er eo ed ea eb = rw (← eo, ← ed, ← ea, ← eb) er
+use Rattle.audit_model.specs.Orders.{in_order_in, ordered_from, ring_ordered_in, disordered_in, disorder_in, order_fault_in}
+use Rattle.sweeps.proofs.Laws.Marks.{out, left_turns}
 
 -- ring_in_order
 pub ordered_first : (t f : List ℕ) (j m at : ℕ) → at ≡ next_in t f j m → ordered_from 8256 t f j m at ≡ ring_ordered_in t f j m
 unfolding ring_ordered_in
 ordered_first t f j m at ea = rw ea
 
-module _ (left : ℕ) (t f : List ℕ) (j m at : ℕ) (x : Bool) (inv : ordered_from left t f j m at ≡ x) where
-  pub ordered_spent : left ≤ 0 → false ≡ x
+module _ (n turn : ℕ) (t f : List ℕ) (j m at : ℕ) (x : Bool) (inv : ordered_from (n - turn) t f j m at ≡ x) where
+  pub ordered_spent : n ≤ turn → false ≡ x
   unfolding ordered_from
   ordered_spent h = rw (out h) at inv
 
-  module _ (more : 0 < left) where
+  module _ (more : turn < n) where
     pub ordered_home : at ≡ m → true ≡ x
     unfolding ordered_from
-    ordered_home e = rw (turn more, eq-eqb at m e) at inv
+    ordered_home e = rw (left_turns more, eq-eqb at m e) at inv
 
     module _ (next : ℕ) (ne : at ≡ m → ⊥) (en : next ≡ next_in t f j at) where
       pub ordered_last : next ≡ m → true ≡ x
       unfolding ordered_from
-      ordered_last e = rw (turn more, ne_eqb at m ne, ← en, eq-eqb next m e) at inv
+      ordered_last e = rw (left_turns more, ne_eqb at m ne, ← en, eq-eqb next m e) at inv
 
       module _ (r : Bool) (away : next ≡ m → ⊥) (er : r ≡ in_order_in t f j at next) where
-        pub ordered_broken : not r ≡ true → false ≡ x
+        pub ordered_broken : r ≡ false → false ≡ x
         unfolding ordered_from
-        ordered_broken e = rw (turn more, ne_eqb at m ne, ← en, ne_eqb next m away, ← er, not-true r e) at inv
+        ordered_broken e = rw (left_turns more, ne_eqb at m ne, ← en, ne_eqb next m away, ← er, e) at inv
 
-        -- `n` is `next` as the turn's end has it: apart, so that `search` unfolds it once
-        pub ordered_next : (n : ℕ) → not r ≡ false → n ≡ next → ordered_from (left - 1) t f j m n ≡ x
+        pub ordered_next : r ≡ true → ordered_from (n - (turn + 1)) t f j m next ≡ x
         unfolding ordered_from
-        ordered_next n e same = rw same (rw (turn more, ne_eqb at m ne, ← en, ne_eqb next m away, ← er, not-false r e) at inv)
-
--- out_of_order
-module _ (t f : List ℕ) (j c k : ℕ) (ek : k ≡ kind_in f c) where
-  pub order_none : k ≡ 0 → false ≡ disordered_in t f j c
-  unfolding disordered_in
-  order_none z = rw (← ek, eq-eqb k 0 z)
-
-  module _ (m : Bool) (nz : k ≡ 0 → ⊥) (em : m ≡ is_master t j k) where
-    pub order_other : not m ≡ true → false ≡ disordered_in t f j c
-    unfolding disordered_in
-    order_other n = rw (← ek, ne_eqb k 0 nz, ← em, not-true m n)
-
-    pub order_master : (r : Bool) → not m ≡ false → r ≡ ring_ordered_in t f j c → not r ≡ disordered_in t f j c
-    unfolding disordered_in
-    order_master r n er = rw (← ek, ne_eqb k 0 nz, ← em, not-false m n, er)
+        ordered_next e = rw (left_turns more, ne_eqb at m ne, ← en, ne_eqb next m away, ← er, e) at inv
 
 -- chain_fault and order_fault
-module _ (t f : List ℕ) (j o : ℕ) (eo : o ≡ order t j) where
-  pub order_unsorted : o < 2 → 0 ≡ disorder_in t f j
-  unfolding disorder_in
-  order_unsorted lt = rw (← eo, lt-ltb o 2 lt)
+module _ (t f : List ℕ) (j : ℕ) (o : Order) (r : Bool) (eo : o ≡ order_of (order t j)) (er : r ≡ sorts o) where
+  told : r ≡ not (ltb (order t j) 2)
+  told = (rw eo at er) ∙ sorts_order (order t j)
 
-  pub order_sorted : (n : ℕ) → 2 ≤ o → n ≡ pages t → first_of (disordered_in t f j) (run 64 (64 * n)) ≡ disorder_in t f j
+  pub order_unsorted : r ≡ false → None ≡ or_none (disorder_in t f j)
   unfolding disorder_in
-  order_sorted n le en = rw (← eo, le-ltb o 2 le, en)
+  order_unsorted e = none_is (rw (not-false (ltb (order t j) 2) (sym told ∙ e)))
 
-pub order_first : (t f : List ℕ) (left : ℕ) → left ≡ chains t → first_fault (disorder_in t f) (run 0 left) ≡ order_fault_in t f
+  pub order_sorted : (x : Option ℕ) (n : ℕ) → r ≡ true → n ≡ pages t → x ≡ or_none (first_of (disordered_in t f j) (run 64 (64 * n))) → x ≡ or_none (disorder_in t f j)
+  unfolding disorder_in
+  order_sorted x n e en ex = rw (not-true (ltb (order t j) 2) (sym told ∙ e), ← en) ex
+
+pub order_first : (t f : List ℕ) (n : ℕ) → n ≡ chains t → first_fault (disorder_in t f) (run 0 (n - 0)) ≡ order_fault_in t f
 unfolding order_fault_in
-order_first t f left e = rw e
+order_first t f n e = let same : n - 0 ≡ n = omega arith in rw (same, e)

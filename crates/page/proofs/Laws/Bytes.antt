@@ -1,5 +1,5 @@
 -- Bytes read by place.
-use Rattle.std.proofs.Common.{◌≡◌, ℕ, ◌+◌, ◌<◌, ◌≤◌, List, [], ◌∷◌, length, get_or, drop, refl, arith, add_assoc, add-zero}
+use Rattle.std.proofs.Common.{◌≡◌, ◌∙◌, ℕ, ◌+◌, ◌<◌, ◌≤◌, List, [], ◌∷◌, length, get_or, drop, refl, arith, add_assoc, add-zero}
 use Rattle.std.specs.Int.{w16, w32, w64, from_be_bytes}
 use lib.ListN.{get_or-eq_default}
 use lib.Seq.{get_or-drop}
@@ -31,23 +31,26 @@ pub line-drop : (f : List ℕ) (at : ℕ) → get_or (drop at f) 4 0 ≡ line_at
 unfolding line_at
 line-drop f at = get_or-drop at f 4 0
 
--- the bytes that `bytes_at` gives
-module _ (f bs : List ℕ) (i n : ℕ) where
-  pub two_from_bytes : ((k : ℕ) → k < 2 → get_or bs k 0 ≡ get_or f (i + k) 0) → n ≡ from_be_bytes w16 bs → n ≡ two_at f i
+module _ (f rest : List ℕ) (i n a b : ℕ) (er : rest ≡ drop i f) (ea : a ≡ get_or rest 0 0) (eb : b ≡ get_or rest 1 0) where
+  first : a ≡ get_or f i 0
+  first = let e : a ≡ get_or f (i + 0) 0 = ea ∙ rw er (get_or-drop i f 0 0) in rw add-zero at e
+
+  second : b ≡ get_or f (i + 1) 0
+  second = eb ∙ rw er (get_or-drop i f 1 0)
+
+  pub two_from_bytes : n ≡ from_be_bytes w16 (a ∷ b ∷ []) → n ≡ two_at f i
   unfolding two_at
-  two_from_bytes at e =
-      let a : get_or bs 0 0 ≡ get_or f i 0 = rw add-zero at (at 0 (omega arith)) in
-      let b : get_or bs 1 0 ≡ get_or f (i + 1) 0 = at 1 (omega arith) in
-      omega arith
+  two_from_bytes e = let x = first in let y = second in omega arith
 
-  pub three_from_bytes : ((k : ℕ) → k < 3 → get_or bs k 0 ≡ get_or f (i + k) 0) → n ≡ from_be_bytes w32 (0 ∷ get_or bs 0 0 ∷ get_or bs 1 0 ∷ get_or bs 2 0 ∷ []) → n ≡ three_at f i
+  pub three_from_bytes : (c : ℕ) → c ≡ get_or rest 2 0 → n ≡ from_be_bytes w32 (0 ∷ a ∷ b ∷ c ∷ []) → n ≡ three_at f i
   unfolding three_at
-  three_from_bytes at e =
-      let a : get_or bs 0 0 ≡ get_or f i 0 = rw add-zero at (at 0 (omega arith)) in
-      let b : get_or bs 1 0 ≡ get_or f (i + 1) 0 = at 1 (omega arith) in
-      let c : get_or bs 2 0 ≡ get_or f (i + 2) 0 = at 2 (omega arith) in
+  three_from_bytes c ec e =
+      let x = first in
+      let y = second in
+      let z : c ≡ get_or f (i + 2) 0 = ec ∙ rw er (get_or-drop i f 2 0) in
       omega arith
 
+-- the bytes that `bytes_at` gives
 pub flags_from_bytes : (f bs : List ℕ) (n : ℕ) → ((k : ℕ) → k < 8 → get_or bs k 0 ≡ get_or f (5 + k) 0) → n ≡ from_be_bytes w64 bs → n ≡ flags_at f
 unfolding flags_at two_at
 flags_from_bytes f bs n at e =
