@@ -57,13 +57,6 @@ pub struct Found {
     pub place: u16,
 }
 
-// The neighbours of a record in each chain.
-#[derive(Clone, Copy)]
-pub struct Places {
-    pub before: [u32; 16],
-    pub after: [u32; 16],
-}
-
 // A detail below a record, and the chain in which it was met.
 #[derive(Clone, Copy)]
 pub struct Below {
