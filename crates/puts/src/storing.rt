@@ -76,7 +76,7 @@ fn gap_in(table: &[u16], file: &[u8], cur: Currency, new: Contents, x: u32, j: u
     new.place_under(table, file, j, placing::occurrence(table, file, cur, j), 0)
 }
 
-// Its neighbours in each chain.
+// Its neighbours in each chain. An index below 16 is cast: `try_from` would have an error that never comes.
 fn gaps_of(table: &[u16], file: &[u8], cur: Currency, new: Contents, x: u32) -> [Between; 16]
     ensures { result ≡ places_by (gap_in table.now file.now cur new.entry.kind new.entry.«data».now x) }
 {
@@ -93,7 +93,7 @@ fn link_in(table: &[u16], file: &mut [u8], kind: u16, x: u32, j: u16, gap: Betwe
     }
 }
 
-// Links a record in every chain of its type.
+// Links a record in every chain of its type; the index is cast for the same reason.
 fn link_all(table: &[u16], file: &mut [u8], kind: u16, x: u32, gaps: [Between; 16])
     ensures { entered_all table.now file.old kind x (place_at gaps) ≡ file.new }
 {
@@ -143,6 +143,7 @@ fn put_linked(
 )
     ensures { stored_with table.now file.old new.entry.kind new.entry.«data».now p gap x (place_at gaps) ≡ file.new }
 {
+    // Cut to a word and no `try_from`: `stored_with` says so of every table.
     let size = (sizes::record_size(table, new.kind) % 65536) as u16;
     moves::put_in(file, p, gap, new.kind, size, new.data);
     link_all(table, file, new.kind, x, gaps);
