@@ -40,8 +40,7 @@ struct Run {
 // Whether a line is a frame 00 that was done, by its answer.
 fn made_a_file(text: &[u8], answer: &[u8]) -> bool {
     let mut frame = [0u8; line::FRAME];
-    let decoded = hex::decode(text, &mut frame);
-    if !decoded.ok {
+    if hex::decode(text, &mut frame).is_none() {
         return false;
     }
     if bytes::byte_at(&frame, 0) != 0 {

@@ -18,17 +18,17 @@ const TURNS: u16 = 300;
 
 // The write that is due.
 fn perform(d: &mut Disk, before: &[u8], after: &[u8], due: Due) -> io::Result<()> {
-    if due.phase == plan::STORE {
-        return disk::store(d, after, due.page);
+    match due {
+        Due::Store(page) | Due::Back(page) => disk::store(d, after, page),
+        Due::Empty => disk::empty(d),
+        Due::Image(_) | Due::Ready | Due::Done => append_line(d, before, due),
     }
-    if due.phase == plan::BACK {
-        return disk::store(d, after, due.page);
-    }
-    if due.phase == plan::EMPTY {
-        return disk::empty(d);
-    }
+}
+
+// The line that is due, at the journal's end.
+fn append_line(d: &mut Disk, before: &[u8], due: Due) -> io::Result<()> {
     let mut line = [0u8; LINE];
-    let n = plan::put_line(before, due, &mut line);
+    let n = plan::put_line(before, due, &mut line).unwrap_or(0);
     disk::append(d, bytes::part_of(&line, 0, n as usize))
 }
 
@@ -38,15 +38,15 @@ pub(crate) fn carry_out(
     marks: &[u8],
     before: &[u8],
     after: &[u8],
-    first: Due,
+    first: Option<Due>,
 ) -> io::Result<()> {
-    let mut due = first;
+    let mut next = first;
     for _ in 0..TURNS {
-        if due.phase == plan::NOTHING {
+        let Some(due) = next else {
             return Ok(());
-        }
+        };
         perform(d, before, after, due)?;
-        due = plan::next(marks, due);
+        next = plan::next(marks, due);
     }
     Err(Error::other("more writes than a call can have"))
 }
@@ -62,10 +62,12 @@ fn shorten(d: &mut Disk) -> io::Result<()> {
 // What a call changed from `before` to `after`; then `before` is `after`.
 pub(crate) fn keep(d: &mut Disk, before: &mut [u8], after: &[u8]) -> io::Result<()> {
     let mut space = [0u8; 128];
-    let n = plan::mark(before, after, &mut space);
+    let Some(n) = plan::mark(before, after, &mut space) else {
+        return Ok(());
+    };
     let marks = bytes::part_of(&space, 0, n as usize);
     let first = plan::first_of_call(marks);
-    if first.phase == plan::NOTHING {
+    if first.is_none() {
         return Ok(());
     }
     carry_out(d, marks, before, after, first)?;
