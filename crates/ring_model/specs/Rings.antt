@@ -70,6 +70,7 @@ has_key_in t f j key x c = not (eqb c x) && same_key (sort_key_in t f j c) key
 abbrev pub not_found : Found
 not_found = record { code = 0; place = 0 }
 
+-- None where no place was found
 unfoldable pub found_or_none : Found → Option Found
 found_or_none r = cond (eqb r.place 0) None (Some r)
 
