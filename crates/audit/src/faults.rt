@@ -9,7 +9,7 @@ use scan::pages;
 use sweeps::{calcs, chains};
 
 // The place of the first ring fault: CALC, then each chain.
-#[tactic(auto, using(ledger::proofs::Lists::Nones::zero_of_none, ledger::proofs::Lists::Nones::value_of_some, ledger::proofs::Lists::Nones::some_not_zero, ledger::proofs::Lists::Nones::none_is), unfolding(audit_model::specs::Faults::ring_place, audit_model::specs::Faults::first_place))]
+#[tactic(auto, using(audit_model::proofs::Nones::found_or_none), unfolding(audit_model::specs::Faults::ring_place, audit_model::specs::Faults::first_place))]
 fn ring_place(table: &[u16], file: &[u8]) -> Option<u32>
     ensures { result ≡ or_none (ring_place table.now file.now) }
 {
@@ -17,7 +17,7 @@ fn ring_place(table: &[u16], file: &[u8]) -> Option<u32>
 }
 
 // The place of the first fault of duplicates and order, in the same sequence.
-#[tactic(auto, using(ledger::proofs::Lists::Nones::zero_of_none, ledger::proofs::Lists::Nones::value_of_some, ledger::proofs::Lists::Nones::some_not_zero, ledger::proofs::Lists::Nones::none_is), unfolding(audit_model::specs::Faults::order_place, audit_model::specs::Faults::first_place))]
+#[tactic(auto, using(audit_model::proofs::Nones::found_or_none), unfolding(audit_model::specs::Faults::order_place, audit_model::specs::Faults::first_place))]
 fn order_place(table: &[u16], file: &[u8]) -> Option<u32>
     ensures { result ≡ or_none (order_place table.now file.now) }
 {
@@ -25,7 +25,7 @@ fn order_place(table: &[u16], file: &[u8]) -> Option<u32>
 }
 
 // The first fault of a file: of its pages, then of its rings, then of duplicates and order.
-#[tactic(auto, using(ledger::proofs::Lists::Nones::zero_of_none, ledger::proofs::Lists::Nones::value_of_some, ledger::proofs::Lists::Nones::some_not_zero, ledger::proofs::Lists::Nones::none_is), unfolding(audit_model::specs::Faults::audit_on))]
+#[tactic(auto, using(audit_model::proofs::Nones::found_or_none), unfolding(audit_model::specs::Faults::audit_on))]
 pub fn audit(table: &[u16], file: &[u8]) -> Result<(), Fault>
     ensures { result ≡ audit_on table.now file.now }
 {

@@ -45,7 +45,7 @@ impl Ring for Details<'_> {
     ghost back = { λ r last. prior_is r.file.now r.ends.linked r.start r.ends.above last };
 
     // A detail may be met once, if its PRIOR is `last`.
-    #[tactic(auto, using(ledger::proofs::Lists::Nones::zero_of_none, ledger::proofs::Lists::Nones::value_of_some, ledger::proofs::Lists::Nones::some_not_zero, ledger::proofs::Lists::Nones::none_is), unfolding(audit_model::specs::Chains::met_in))]
+    #[tactic(auto, using(audit_model::proofs::Nones::found_or_none), unfolding(audit_model::specs::Chains::met_in))]
     fn next(&self, marks: &[u8], last: u32, at: u32) -> Option<u32> {
         let s = lookup::find(self.file, at)?;
         if bytes::two_at(self.file, s) != self.ends.detail
