@@ -95,7 +95,7 @@ pub fn is_calculated(table: &[u16], number: u16) -> bool
     kind_word(table, number, CLASS) == 2
 }
 
-// Whether a type is a chain's master, its detail, one of them.
+// Whether a type is a chain's master, its detail, one of them. One comparison each: a function of both by the word compared is no plainer.
 #[tactic(auto, unfolding(ledger::specs::Table::is_master))]
 pub fn is_master(table: &[u16], j: u16, number: u16) -> bool
     ensures { result ≡ is_master table.now j number }
