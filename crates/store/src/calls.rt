@@ -1,7 +1,6 @@
 // The public calls: refusals 1 to 4, then the call's own work. Each comes back done, or refused with nothing changed.
-// Each asks `check` by itself. One function that takes the work as a closure was tried: it is no plainer, and its closures over what is lent
-// more than double what is proved. Table, file and currency stay side by side and no struct: the specification lends a table as a plain `&[u16]`,
-// and hands currency by value.
+// Each asks `check` by itself. `check(..).and_then(|()| ..)` was tried in its place and is no plainer: each call is a closure over what is lent then.
+// Table, file and currency stay side by side and no struct: the specification lends a table as a plain `&[u16]`, and hands currency by value.
 ghost use Rattle.std.specs.Prelude.{◌≡◌, [], ◌∷◌};
 ghost use Rattle.ledger.specs.Calls.{STORE, DIRECT, KEY, NEXT, PRIOR, MASTER, EACH, MODIFY, DELETE, CURRENT, FIND, RELINK, UNKNOWN};
 ghost use Rattle.ledger.specs.Promise.{ComesBack, Plays, Formats, Reads, turn_of};

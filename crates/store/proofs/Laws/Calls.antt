@@ -29,9 +29,16 @@ module _ (t f : List ℕ) (cur : Currency) (test : Result ⊤ Refusal) (en : num
   unfolding checked_with
   with_refused b c why k r e ek er = rw (er, ek) (unless_refused _ test en cur b c why e)
 
-  pub with_done : (b : List ℕ) (c : Changed) (o r : Outcome) (g : List ℕ) → ((why : Refusal) → test ≡ Err why → ⊥) → c ≡ (o, g) → r ≡ o → checked_with t f cur b c ≡ (r, g)
+  pub with_done : (b : List ℕ) (c : Changed) (r : Outcome) (g : List ℕ) → ((why : Refusal) → test ≡ Err why → ⊥) → c ≡ (r, g) → checked_with t f cur b c ≡ (r, g)
   unfolding checked_with
-  with_done b c o r g pass ec er = rw er (unless_done _ test en cur b c o g (let_pass _ test en pass) ec)
+  with_done b c r g pass ec = unless_done _ test en cur b c r g (let_pass _ test en pass) ec
+
+-- the second and the third of what a call promises
+pub the_back : {A B C : Type 0} → A × (B × C) → B
+the_back p = p.1.0
+
+pub the_plays : {A B C : Type 0} → A × (B × C) → C
+the_plays p = p.1.1
 
 -- FORMAT
 module _ (t f : List ℕ) (cur : Currency) (test : Result ⊤ Refusal) (en : number_of test ≡ size_refusal t f) where

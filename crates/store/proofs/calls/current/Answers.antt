@@ -14,6 +14,6 @@ returns-in-Err c =
 pub returns : goal.returns
 unfolding current_call
 returns c =
-    let p = current_promised _ _ _ c.type_inv.file (search rules) (search rules) _ _
-    (checked_done _ _ _ _ c.check.ensures.computed _ _ c.in_default.not-Err (rw (← c.current.ensures) c.of.ensures)) in
+    let p = current_promised _ _ _ c.type_inv.file (search rules) (search rules) c.of.result c.args.kind
+    (checked_done _ _ _ _ c.check.ensures.computed _ _ c.in_default.not-Err (cc)) in
     record { computed = p.0; back = p.1.0; plays = p.1.1 }

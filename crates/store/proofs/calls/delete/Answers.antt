@@ -15,5 +15,5 @@ pub returns : goal.returns
 unfolding delete_call
 returns c =
     let p = delete_promised _ _ _ (search rules) (search rules) (search rules) _ _
-    (with_done _ _ _ _ c.check.ensures.computed _ _ _ _ _ c.in_default.not-Err c.delete.ensures c.of.ensures) in
+    (with_done _ _ _ _ c.check.ensures.computed _ _ _ _ c.in_default.not-Err (rw c.of.ensures c.delete.ensures)) in
     record { computed = p.0; back = p.1.0; plays = p.1.1 }

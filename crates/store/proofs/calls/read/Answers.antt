@@ -15,5 +15,5 @@ pub returns : goal.returns
 unfolding read_call
 returns c =
     let p = read_promised _ _ _ c.type_inv.file (search rules) (search rules) _ _ _
-    (with_done _ _ _ _ c.check.ensures.computed _ _ _ _ _ c.in_default.not-Err c.read.ensures c.of.ensures) in
+    (with_done _ _ _ _ c.check.ensures.computed _ _ _ _ c.in_default.not-Err (rw c.of.ensures c.read.ensures)) in
     record { computed = p.0; back = p.1.0; reads = p.1.1 }

@@ -15,5 +15,5 @@ pub returns : goal.returns
 unfolding store_call
 returns c =
     let p = store_promised _ _ _ (search rules) (search rules) (search rules) _ _ _ _ c.type_inv.data
-    (with_done _ _ _ _ c.check.ensures.computed _ _ _ _ _ c.in_default.not-Err c.store.ensures c.of.ensures) in
+    (with_done _ _ _ _ c.check.ensures.computed _ _ _ _ c.in_default.not-Err (rw c.of.ensures c.store.ensures)) in
     record { computed = p.0; back = p.1.0; plays = p.1.1 }
