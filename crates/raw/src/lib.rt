@@ -2,19 +2,21 @@
 #![tactic(auto)]
 
 ghost use Rattle.std.specs.Prelude.{◌≡◌, length};
+ghost use Rattle.ledger.specs.Answers.{outcome_of};
 ghost use Rattle.frames.specs.Calls.{call_with};
 ghost use Rattle.raw_model.specs.Raws.{check_on, raw_played_on, raw_play_on, raw_on};
 
 use frames::call::Call;
 use frames::{call, shape};
-use ledger::{Answer, Currency, Outcome};
+use ledger::{Currency, Outcome, Refusal};
 use looks::calls;
 use store::{changes, checks};
 
 // The currency has not 33 words. A number and no enum, as all that gerunjap_check answers: C takes it as it is.
 pub const BAD_CURRENCY: u8 = 255;
 
-// Makes a call.
+// Makes a call, or says why it is refused.
+// A match of its own, as play's, and no trait over both: every arm calls another function, so a trait would only name the fifteen once more.
 #[tactic(auto, unfolding(raw_model::specs::Raws::raw_played_on))]
 fn play_call(
     table: &[u16],
@@ -22,11 +24,11 @@ fn play_call(
     cur: Currency,
     call: Call,
     output: &mut [u8],
-) -> Outcome
-    ensures { raw_played_on table.now file.old cur output.old (call_with call.entry (length output.old)) ≡ (result, file.new, output.new) }
+) -> Result<Outcome, Refusal>
+    ensures { raw_played_on table.now file.old cur output.old (call_with call.entry (length output.old)) ≡ (outcome_of result cur, file.new, output.new) }
 {
     match call {
-        Call::Format => store::calls::format(table, file, cur),
+        Call::Format => Ok(store::calls::format(table, file, cur)),
         Call::Store { kind, bytes } => changes::store(table, file, cur, kind, bytes),
         Call::Direct { code } => calls::direct(table, file, cur, code),
         Call::Key { kind, key } => calls::key(table, file, cur, kind, key),
@@ -40,7 +42,7 @@ fn play_call(
         Call::Current { kind } => calls::current(table, file, cur, kind),
         Call::Find { chain, key } => calls::find(table, file, cur, chain, key),
         Call::Relink { chain, master } => changes::relink(table, file, cur, chain, master),
-        Call::Unknown => Outcome::refused(Answer::UNKNOWN, cur),
+        Call::Unknown => Err(Refusal::Unknown),
     }
 }
 
@@ -55,7 +57,8 @@ fn play_raw(
 ) -> Outcome
     ensures { raw_play_on table.now file.old cur frame.now output.old ≡ (result, file.new, output.new) }
 {
-    play_call(table, file, cur, call::call_of(frame), output)
+    let came = play_call(table, file, cur, call::call_of(frame), output);
+    Outcome::of(came, cur)
 }
 
 // The first of refusals 1 to 4 that is due, or 0.
@@ -66,7 +69,10 @@ pub fn gerunjap_check(table: &[u16], file: &[u8], currency: &[u32]) -> u8
     if currency.len() != 33 {
         return BAD_CURRENCY;
     }
-    checks::check(table, file, gerunjap::currency_of(currency))
+    match checks::check(table, file, gerunjap::currency_of(currency)) {
+        Ok(()) => 0,
+        Err(why) => why.code(),
+    }
 }
 
 // As gerunjap_call, without refusals 1 to 4 but for FORMAT's. On a file that is not sound it still comes back, but its answer means nothing.
