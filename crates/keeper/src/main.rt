@@ -23,8 +23,8 @@ const JOURNAL: usize = 262144;
 
 // Keeps a data file: opens it, and plays what comes in.
 fn keep<'n, R: Files<File = File> + Print + Eprint>(
-    rt: &R,
-    names: &'n Names<'_>,
+    rt: &'n R,
+    names: &'n Names<'n>,
     input: &mut impl Read,
 ) -> Result<(), Stop<'n>> {
     let mut table = [0u16; format::TABLE];
