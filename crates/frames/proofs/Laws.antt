@@ -1,5 +1,4 @@
 -- The laws behind the functions on frames and text: one for each way out and each turn of a loop.
-pub mod Digits
 pub mod Lines
 pub mod Prints
 pub mod Shapes

@@ -1,122 +1,90 @@
 // Hexadecimal text, in and out.
 ghost use Rattle.std.specs.Prelude.{◌≡◌, ◌%◌};
 ghost use Rattle.ledger.specs.Player.{digit_value, digit_of};
-ghost use Rattle.frames_model.specs.Texts.{stopped, digit_on, step_on, decode_on, hex_put};
+ghost use Rattle.frames_model.specs.Texts.{digit_on, step_on, decode_on, hex_put};
 
-use frames_model::{Decoded, Reading};
+use frames_model::Reading;
 use page::writes;
 
 // More than any digit's value: no hexadecimal digit.
 pub const NO_DIGIT: u8 = 16;
 
 // The value of a digit in either case.
+// A number and no Option: the ledger's `digit_value` says 16 of a character that is no digit.
+#[tactic(auto, unfolding(ledger::specs::Player::digit_value, ledger::specs::Rules::between))]
 pub fn digit_value(c: u8) -> u8
     ensures { result ≡ digit_value c }
 {
-    if c < 48 {
-        return NO_DIGIT;
+    match c {
+        b'0'..=b'9' => c - b'0',
+        b'A'..=b'F' => c - b'A' + 10,
+        b'a'..=b'f' => c - b'a' + 10,
+        _ => NO_DIGIT,
     }
-    if c < 58 {
-        return c - 48;
-    }
-    if c < 65 {
-        return NO_DIGIT;
-    }
-    if c < 71 {
-        return c - 55;
-    }
-    if c < 97 {
-        return NO_DIGIT;
-    }
-    if c < 103 {
-        return c - 87;
-    }
-    NO_DIGIT
 }
 
 // The digit of a value, in capitals.
+#[tactic(auto, unfolding(ledger::specs::Player::digit_of))]
 pub fn digit_of(v: u8) -> u8
     ensures { result ≡ digit_of (v % 16) }
 {
-    let d = v % 16;
-    if d < 10 { 48 + d } else { 55 + d }
-}
-
-// The reading of a line at its first fault.
-fn stopped() -> Reading
-    ensures { result ≡ stopped }
-{
-    Reading {
-        ok: false,
-        half: false,
-        high: 0,
-        count: 0,
+    match v % 16 {
+        d @ 0..=9 => b'0' + d,
+        d => b'A' - 10 + d,
     }
 }
 
 // Takes a digit of value `v`: the first of a byte is kept, the second puts the byte into `frame`.
-fn take_digit(frame: &mut [u8], s: Reading, v: u8) -> Reading
+#[tactic(auto, unfolding(frames_model::specs::Texts::digit_on))]
+fn take_digit(frame: &mut [u8], s: Reading, v: u8) -> Option<Reading>
     ensures { digit_on frame.old s v ≡ (result, frame.new) }
 {
     let count = s.count;
-    if !s.half {
-        return Reading {
-            ok: true,
-            half: true,
-            high: v,
+    let Some(high) = s.high else {
+        return Some(Reading {
+            high: Some(v),
             count,
-        };
-    }
+        });
+    };
     if frame.len() <= count {
-        return stopped();
+        return None;
     }
-    frame[count] = (s.high % 16) * 16 + v % 16;
-    Reading {
-        ok: true,
-        half: false,
-        high: 0,
+    frame[count] = high % 16 * 16 + v % 16;
+    Some(Reading {
+        high: None,
         count: count + 1,
-    }
+    })
 }
 
 // Takes a character: a space is skipped.
-fn take_character(frame: &mut [u8], s: Reading, c: u8) -> Reading
+#[tactic(auto, unfolding(frames_model::specs::Texts::step_on))]
+fn take_character(frame: &mut [u8], s: Reading, c: u8) -> Option<Reading>
     ensures { step_on frame.old s c ≡ (result, frame.new) }
 {
-    if c == 32 {
-        return s;
+    if c == b' ' {
+        return Some(s);
     }
     let v = digit_value(c);
     if v == NO_DIGIT {
-        return stopped();
+        return None;
     }
     take_digit(frame, s, v)
 }
 
-// Decodes a line into `frame`, which has room for half of it; spaces are skipped.
-pub fn decode(line: &[u8], frame: &mut [u8]) -> Decoded
+// Decodes a line into `frame`, which has room for half of it; spaces are skipped. How many bytes it has, or None where it is no frame.
+pub fn decode(line: &[u8], frame: &mut [u8]) -> Option<usize>
     ensures { decode_on line.now frame.old ≡ (result, frame.new) }
 {
     let mut s = Reading {
-        ok: true,
-        half: false,
-        high: 0,
+        high: None,
         count: 0,
     };
-    let mut i: usize = 0;
-    while i < line.len() {
-        s = take_character(frame, s, line[i]);
-        if !s.ok {
-            return Decoded {
-                ok: false,
-                count: 0,
-            };
-        }
-        i += 1;
+    for c in line {
+        s = take_character(frame, s, *c)?;
     }
-    Decoded {
-        ok: !s.half,
-        count: s.count,
+    match s.high {
+        None => Some(s.count),
+        Some(_) => None,
     }
 }
 

@@ -4,6 +4,7 @@ use mathlib.Core.Path.{◌≡◌, refl, sym, ◌∙◌, ap}
 use mathlib.Core.Bool.{Bool, true, false, cond, not, and-false}
 use mathlib.Core.List.{List, [], ◌∷◌, ◌++◌, append_assoc}
 use mathlib.Core.Option.{Option, none, some, map}
+use Rattle.std.proofs.Common.{Some, None}
 use native.Mathlib.Omega.{arith}
 use native.Mathlib.Nat.{add-zero, zero-add}
 use native.Mathlib.Numerals.{add-one}
@@ -19,8 +20,7 @@ use Rattle.ledger.proofs.Lists.Tests.{by_cases, both}
 use Rattle.ledger.proofs.Lists.Parts.{sets_append}
 use Rattle.ledger.proofs.Lists.Runs.{concat_of_append}
 use Rattle.frames_model.specs.declared.Reading.{Reading}
-use Rattle.frames_model.specs.declared.Decoded.{Decoded}
-use Rattle.frames_model.specs.Texts.{digit_on, step_on, decode_from, decode_on, hex_put, four_put, answer_put, data_put, text_put}
+use Rattle.frames_model.specs.Texts.{Decoded, digit_on, step_on, decode_from, decode_on, hex_put, four_put, answer_put, data_put, text_put}
 
 -- a text at the front of an output that has room for it: the rest stands
 pub text_put_lem : (out s : List ℕ) → length s ≤ length out → text_put out s ≡ (length s, s ++ drop (length s) out)
@@ -95,16 +95,16 @@ no_digit : (c : ℕ) → (is_digit c ≡ false) → digit_value c ≡ 16
 no_digit c e = omega (arith, digit_small c, ltb-false (digit_value c) 16 e)
 
 -- what reading on from n bytes done, with n bytes in the frame, comes to
-abbrev Reads : Option (List ℕ) → ℕ → List ℕ → Decoded × List ℕ → Type 0
-Reads none n frame r = r.0.ok ≡ false
-Reads (some bs) n frame r = (n + length bs ≤ length frame) × (r ≡ (record { ok = true; count = n + length bs }, sets frame n bs))
+abbrev Reads : Option (List ℕ) → ℕ → List ℕ → Decoded → Type 0
+Reads none n frame r = r.0 ≡ None
+Reads (some bs) n frame r = (n + length bs ≤ length frame) × (r ≡ (Some (n + length bs), sets frame n bs))
 
 -- a state with n bytes done, and one with a first digit a besides
 abbrev even : ℕ → Reading
-even n = record { ok = true; half = false; high = 0; count = n }
+even n = record { high = None; count = n }
 
 abbrev odd : ℕ → ℕ → Reading
-odd n a = record { ok = true; half = true; high = digit_value a; count = n }
+odd n a = record { high = Some (digit_value a); count = n }
 
 abbrev unspaced : List ℕ → List ℕ
 unspaced cs = keep (λ c. not (eqb c 32)) cs
@@ -115,7 +115,7 @@ unfolding pairs_of
 pairs_bad c [] e = refl
 pairs_bad c (b ∷ cs) e = rw e
 
-reads_more : (o : Option (List ℕ)) (b n : ℕ) (frame : List ℕ) (r : Decoded × List ℕ) → Reads o (n + 1) (set frame n b) r
+reads_more : (o : Option (List ℕ)) (b n : ℕ) (frame : List ℕ) (r : Decoded) → Reads o (n + 1) (set frame n b) r
     → Reads (map (λ bs. b ∷ bs) o) n frame r
 reads_more none b n frame r h = h
 reads_more (some bs) b n frame r (fits, h) =
@@ -153,10 +153,10 @@ module _ (line frame : List ℕ) (room : length line ≤ 2 * length frame) where
   unfolding frame_of decode_on
   reads = (reads_from line).0 frame 0 (omega arith)
 
-  pub decode_none : frame_of line ≡ none → (decode_on line frame).0.ok ≡ false
+  pub decode_none : frame_of line ≡ none → (decode_on line frame).0 ≡ None
   decode_none e = rw e at reads
 
-  pub decode_some : (bs : List ℕ) → frame_of line ≡ some bs → decode_on line frame ≡ (record { ok = true; count = length bs }, bs ++ drop (length bs) frame)
+  pub decode_some : (bs : List ℕ) → frame_of line ≡ some bs → decode_on line frame ≡ (Some (length bs), bs ++ drop (length bs) frame)
   decode_some bs e =
       let (fits, h) = rw e at reads in
       h ∙ rw (sets-eq bs frame 0 (omega arith), zero-add)

@@ -1,40 +1,48 @@
 -- Hexadecimal text: a line's bytes put into a frame, and an answer put into an output; nothing is put where there is no place for it.
-use Rattle.std.specs.Prelude.{ℕ, ◌+◌, ◌*◌, ◌/◌, ◌%◌, true, false, cond, not, List, [], ◌∷◌, length, set, eqb, ltb, leb}
+use Rattle.std.specs.Prelude.{ℕ, ◌+◌, ◌*◌, ◌/◌, ◌%◌, Option, None, Some, cond, List, [], ◌∷◌, length, set, eqb, ltb, leb}
 use Rattle.std.proofs.lemmas.List.Edits.{sets}
 use Rattle.ledger.specs.declared.Answer.{Answer}
 use Rattle.ledger.specs.Player.{digit_value, digit_of}
 use Rattle.frames_model.specs.declared.Reading.{Reading}
-use Rattle.frames_model.specs.declared.Decoded.{Decoded}
 
--- where the reading of a line starts, and where it stops at a fault
+-- where the reading of a line starts
 abbrev pub unread : Reading
-unread = record { ok = true; half = false; high = 0; count = 0 }
+unread = record { high = None; count = 0 }
 
-abbrev pub stopped : Reading
-stopped = record { ok = false; half = false; high = 0; count = 0 }
+-- a choice by whether there is something
+abbrev pub by_option : {A B : Type 0} → Option A → B → (A → B) → B
+by_option None b f = b
+by_option (Some a) b f = f a
 
--- a digit of value v read: the first of a byte is kept, the second puts the byte
-unfoldable pub digit_on : List ℕ → Reading → ℕ → Reading × List ℕ
+-- a digit of value v read: the first of a byte is kept, the second puts the byte; none where there is no room for it
+unfoldable pub digit_on : List ℕ → Reading → ℕ → Option Reading × List ℕ
 digit_on frame s v =
-    cond s.half
-    (cond (leb (length frame) s.count) (stopped, frame)
-    (record { ok = true; half = false; high = 0; count = s.count + 1 }, set frame s.count (s.high % 16 * 16 + v % 16)))
-    (record { ok = true; half = true; high = v; count = s.count }, frame)
+    by_option s.high (Some (record { high = Some v; count = s.count }), frame)
+    (λ h. cond (leb (length frame) s.count) (None, frame)
+    (Some (record { high = None; count = s.count + 1 }), set frame s.count (h % 16 * 16 + v % 16)))
 
--- a character read: a space is skipped
-unfoldable pub step_on : List ℕ → Reading → ℕ → Reading × List ℕ
+-- a character read: a space is skipped; none where it is no digit
+unfoldable pub step_on : List ℕ → Reading → ℕ → Option Reading × List ℕ
 step_on frame s c =
-    cond (eqb c 32) (s, frame)
-    (cond (eqb (digit_value c) 16) (stopped, frame) (digit_on frame s (digit_value c)))
+    cond (eqb c 32) (Some s, frame)
+    (cond (eqb (digit_value c) 16) (None, frame) (digit_on frame s (digit_value c)))
+
+-- how many bytes are read where no digit waits for its second
+abbrev pub bytes_read : Reading → Option ℕ
+bytes_read s = by_option s.high (Some s.count) (λ h. None)
+
+-- how many bytes a line has, none where it is no frame, and the bytes that were lent for it
+abbrev pub Decoded : Type 0
+Decoded = Option ℕ × List ℕ
 
 -- the characters of a line read, from a state on
-unfoldable pub decode_from : List ℕ → List ℕ → Reading → Decoded × List ℕ
-decode_from [] frame s = (record { ok = not s.half; count = s.count }, frame)
+unfoldable pub decode_from : List ℕ → List ℕ → Reading → Decoded
+decode_from [] frame s = (bytes_read s, frame)
 decode_from (c ∷ cs) frame s =
-    let p : Reading × List ℕ = step_on frame s c in
-    cond p.0.ok (decode_from cs p.1 p.0) (record { ok = false; count = 0 }, p.1)
+    let p : Option Reading × List ℕ = step_on frame s c in
+    by_option p.0 (None, p.1) (λ r. decode_from cs p.1 r)
 
-unfoldable pub decode_on : List ℕ → List ℕ → Decoded × List ℕ
+unfoldable pub decode_on : List ℕ → List ℕ → Decoded
 decode_on line frame = decode_from line frame unread
 
 -- a byte's two digits from `at` on

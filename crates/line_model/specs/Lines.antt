@@ -1,5 +1,5 @@
 -- A well-made frame played, and a line: what it comes to, the table, the file and the output after it.
-use Rattle.std.specs.Prelude.{ℕ, ◌*◌, cond, List, [], ◌∷◌, ◌++◌, length, get_or, take, replicate, eqb, ltb}
+use Rattle.std.specs.Prelude.{ℕ, ◌*◌, Some, None, cond, List, [], ◌∷◌, ◌++◌, length, get_or, take, replicate, eqb, ltb}
 use borrow.Rule.Slice.PartMut.{put_mid}
 use Rattle.ledger.specs.declared.Answer.{Answer}
 use Rattle.ledger.specs.declared.Outcome.{Outcome}
@@ -7,8 +7,7 @@ use Rattle.ledger.specs.Answers.{refused_with}
 use Rattle.ledger.specs.Numbers.{part}
 use Rattle.ledger.specs.Table.{pages, type_word, row}
 use Rattle.ledger.specs.Player.{well_made, printed}
-use Rattle.frames_model.specs.declared.Decoded.{Decoded}
-use Rattle.frames_model.specs.Texts.{decode_on, text_put}
+use Rattle.frames_model.specs.Texts.{Decoded, by_option, decode_on, text_put}
 use Rattle.play_model.specs.Plays.{play_on}
 use Rattle.line_model.specs.declared.Session.{Session}
 use Rattle.line_model.specs.declared.Reply.{Reply}
@@ -50,12 +49,12 @@ unfoldable pub frame_on : List ℕ → List ℕ → Session → List ℕ → Lis
 frame_on t f s frame b =
     cond (eqb (get_or frame 0 0) 0) (with_output b (format_frame t f s frame)) (with_table t (call_frame t f s frame b))
 
--- a line's frame: its length, 0 where the line is bad, and the bytes that were lent for it
-unfoldable pub frame_in : List ℕ → List ℕ → ℕ × List ℕ
+-- a line's frame: its length, none where the line is bad, and the bytes that were lent for it
+unfoldable pub frame_in : List ℕ → List ℕ → Decoded
 frame_in line b =
-    let d : Decoded × List ℕ = decode_on line b in
-    cond (ltb 1100 (length line)) (0, b)
-    (cond d.0.ok (cond (well_made (part 0 d.0.count d.1)) (d.0.count, d.1) (0, d.1)) (0, d.1))
+    let d : Decoded = decode_on line b in
+    cond (ltb 1100 (length line)) (None, b)
+    (by_option d.0 (None, d.1) (λ n. cond (well_made (part 0 n d.1)) (Some n, d.1) (None, d.1)))
 
 unfoldable pub printed_on : List ℕ → Reply → List ℕ → Played × List ℕ
 printed_on out r b =
@@ -80,5 +79,5 @@ answered t f s frame out =
 
 unfoldable pub line_on : List ℕ → List ℕ → Session → List ℕ → List ℕ → Lined
 line_on t f s line out =
-    let n : ℕ × List ℕ = frame_in line (replicate 550 0) in
-    cond (eqb n.0 0) (lined t f (bad_on out s)) (answered t f s (part 0 n.0 n.1) out)
+    let d : Decoded = frame_in line (replicate 550 0) in
+    by_option d.0 (lined t f (bad_on out s)) (λ n. answered t f s (part 0 n d.1) out)

@@ -1,4 +1,3 @@
 -- The laws behind the player's functions: one for each way out and each turn.
 pub mod Formats
-pub mod Lines
 pub mod Feeds

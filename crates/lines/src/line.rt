@@ -23,36 +23,35 @@ pub const OUTPUT: usize = 200;
 pub const READ: u8 = 10;
 
 // How many bytes of data a frame's answer shows: those of a READ that is done.
+#[tactic(auto, unfolding(line_model::specs::Lines::shown_of))]
 fn shown_of(table: &[u16], frame: &[u8], a: Answer) -> usize
     ensures { result ≡ shown_of table.now frame.now a }
 {
-    if bytes::byte_at(frame, 0) != READ {
-        return 0;
+    if bytes::byte_at(frame, 0) == READ && a.code == 0 {
+        words::kind_word(table, a.kind, words::DATA_LENGTH) as usize
+    } else {
+        0
     }
-    if a.code != 0 {
-        return 0;
-    }
-    words::kind_word(table, a.kind, words::DATA_LENGTH) as usize
 }
 
 // The reply to a call under a table.
+#[tactic(auto, unfolding(line_model::specs::Lines::reply_of))]
 fn reply_of(table: &[u16], frame: &[u8], done: Outcome) -> Reply
     ensures { result ≡ reply_of table.now frame.now done }
 {
-    let answer = done.answer;
-    let currency = done.currency;
     let session = Session {
         words: table.len(),
-        currency,
+        currency: done.currency,
     };
     Reply {
         session,
-        answer,
-        shown: shown_of(table, frame, answer),
+        answer: done.answer,
+        shown: shown_of(table, frame, done.answer),
     }
 }
 
 // Plays a call under the session's table, over as many bytes of the file as it asks.
+#[tactic(auto, unfolding(line_model::specs::Lines::call_under))]
 fn call_under(
     table: &[u16],
     file: &mut [u8],
@@ -66,12 +65,12 @@ fn call_under(
     if file.len() < size {
         return format::told(session, Answer::refused(Answer::BAD_SIZE));
     }
-    let cur = session.currency;
-    let done = play::play(table, &mut file[0..size], cur, frame, output);
+    let done = play::play(table, &mut file[..size], session.currency, frame, output);
     reply_of(table, frame, done)
 }
 
 // Plays any other well-made frame than 00; before a table is accepted each is refused.
+#[tactic(auto, unfolding(line_model::specs::Lines::call_frame))]
 fn play_call(
     table: &[u16],
     file: &mut [u8],
@@ -81,17 +80,14 @@ fn play_call(
 ) -> Reply
     ensures { call_frame table.now file.old session frame.now output.old ≡ (result, file.new, output.new) }
 {
-    let n = session.words;
-    if n == 0 {
+    if session.words == 0 || table.len() < session.words {
         return format::told(session, Answer::refused(Answer::BAD_TABLE));
     }
-    if table.len() < n {
-        return format::told(session, Answer::refused(Answer::BAD_TABLE));
-    }
-    call_under(&table[0..n], file, session, frame, output)
+    call_under(&table[..session.words], file, session, frame, output)
 }
 
 // Plays a well-made frame.
+#[tactic(auto, unfolding(line_model::specs::Lines::frame_on))]
 fn play_frame(
     table: &mut [u16],
     file: &mut [u8],
@@ -108,48 +104,47 @@ fn play_frame(
 }
 
 // Whether a frame is well made; frame 00 carries words of two bytes.
+#[tactic(auto, unfolding(ledger::specs::Player::well_made, ledger::specs::Player::call_made))]
 fn is_right(frame: &[u8]) -> bool
     ensures { result ≡ well_made frame.now }
 {
-    if frame.len() == 0 {
-        return false;
+    match frame {
+        [] => false,
+        [0, table @ ..] => table.len() % 2 == 0,
+        _ => shape::well_made(frame),
     }
-    if frame[0] == 0 {
-        return (frame.len() - 1) % 2 == 0;
-    }
-    shape::well_made(frame)
 }
 
-// Takes a line's frame; how many bytes it has, 0 where the line is bad.
-fn take_frame(line: &[u8], frame: &mut [u8]) -> usize
+// Takes a line's frame; how many bytes it has, or None where the line is bad.
+#[tactic(auto, unfolding(line_model::specs::Lines::frame_in))]
+fn take_frame(line: &[u8], frame: &mut [u8]) -> Option<usize>
     ensures { frame_in line.now frame.old ≡ (result, frame.new) }
 {
     if LINE < line.len() {
-        return 0;
+        return None;
     }
-    let decoded = hex::decode(line, frame);
-    if !decoded.ok {
-        return 0;
+    let count = hex::decode(line, frame)?;
+    if !is_right(bytes::part_of(frame, 0, count)) {
+        return None;
     }
-    let n = decoded.count;
-    if !is_right(bytes::part_of(frame, 0, n)) {
-        return 0;
-    }
-    n
+    Some(count)
 }
 
 // Prints a reply; of READ's output the bytes that it shows.
+#[tactic(auto, unfolding(line_model::specs::Lines::printed_on))]
 fn print(out: &mut [u8], reply: Reply, output: &[u8]) -> Played
     ensures { printed_on out.old reply output.now ≡ (result, out.new) }
 {
-    let session = reply.session;
-    let answer = reply.answer;
-    let shown = reply.shown;
-    let count = text::put_line(out, answer, bytes::part_of(output, 0, shown));
-    Played { session, count }
+    let shown = bytes::part_of(output, 0, reply.shown);
+    let count = text::put_line(out, reply.answer, shown);
+    Played {
+        session: reply.session,
+        count,
+    }
 }
 
 // Prints FF; the session stays.
+#[tactic(auto, unfolding(line_model::specs::Lines::bad_on))]
 fn print_bad(out: &mut [u8], session: Session) -> Played
     ensures { bad_on out.old session ≡ (result, out.new) }
 {
@@ -158,6 +153,7 @@ fn print_bad(out: &mut [u8], session: Session) -> Played
 }
 
 // Plays a well-made frame and prints its answer.
+#[tactic(auto, unfolding(line_model::specs::Lines::answered))]
 fn play_right(
     table: &mut [u16],
     file: &mut [u8],
@@ -173,6 +169,7 @@ fn play_right(
 }
 
 // Plays one line, without its line end.
+#[tactic(auto, using(play_laws::proofs::Promises::lined_both), unfolding(line_model::specs::Lines::line_on))]
 pub fn play(
     table: &mut [u16],
     file: &mut [u8],
@@ -184,9 +181,11 @@ pub fn play(
     ensures plays { Stands table.old file.old session → 417 ≤ length out.old → LinePlays table.old file.old session line.now out.old result table.new file.new out.new }
 {
     let mut space = [0u8; FRAME];
-    let n = take_frame(line, &mut space);
-    if n == 0 {
-        return print_bad(out, session);
+    match take_frame(line, &mut space) {
+        Some(count) => {
+            let frame = bytes::part_of(&space, 0, count);
+            play_right(table, file, session, frame, out)
+        }
+        None => print_bad(out, session),
     }
-    play_right(table, file, session, bytes::part_of(&space, 0, n), out)
 }

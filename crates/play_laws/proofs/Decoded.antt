@@ -15,11 +15,13 @@ use Rattle.ledger.specs.Player.{digit_value, is_digit, pairs_of, frame_of, well_
 use Rattle.ledger.proofs.Lists.Tests.{by_cases, both, clash}
 use Rattle.ledger.proofs.Lists.Sieves.{length_keep}
 use Rattle.ledger.proofs.Lists.Digits.{Bytes, nil_bytes, cons_bytes}
+use Rattle.std.proofs.Common.{Some, None}
+use Rattle.frames_model.specs.Texts.{Decoded}
 use Rattle.frames_model.proofs.Texts.{decode_none, decode_some}
 use Rattle.line_model.specs.Lines.{frame_in}
 
 -- what a line's bytes are, in the player's buffer
-abbrev pub held_in : List ℕ → ℕ × List ℕ
+abbrev pub held_in : List ℕ → Decoded
 held_in line = frame_in line (replicate 550 0)
 
 -- pairs of digits: bytes, half as many
@@ -52,15 +54,15 @@ paired (a ∷ b ∷ cs) bs e = by_cases (ltb (digit_value a) 16 && ltb (digit_va
 pub record Carries (line fr : List ℕ) : Type 0 where
   pub framed : frame_of line ≡ some fr
   pub made : well_made fr ≡ true
-  pub count : (held_in line).0 ≡ length fr
-  pub held : part 0 (held_in line).0 (held_in line).1 ≡ fr
+  pub count : (held_in line).0 ≡ Some (length fr)
+  pub held : part 0 (length fr) (held_in line).1 ≡ fr
   pub some_bytes : 0 < length fr
   pub fits : length fr ≤ 550
   pub small : Bytes fr
 
 -- a line that is bad is held as no frame, one that is not as its own
 abbrev Reads : List ℕ → Type 0
-Reads line = ((line_bad line ≡ true) × ((held_in line).0 ≡ 0)) ⊎ ((line_bad line ≡ false) × ((fr : List ℕ) × Carries line fr))
+Reads line = ((line_bad line ≡ true) × ((held_in line).0 ≡ None)) ⊎ ((line_bad line ≡ false) × ((fr : List ℕ) × Carries line fr))
 
 made_some : (fr : List ℕ) → well_made fr ≡ true → 0 < length fr
 unfolding well_made
@@ -83,7 +85,7 @@ module _ (line : List ℕ) (short : length line ≤ 1100) where
       let own : part 0 (length fr) (fr ++ drop (length fr) (replicate 550 0)) ≡ fr = take-append_seam fr _ in
       by_cases (well_made fr)
       (λ w.
-      let h : held_in line ≡ (length fr, fr ++ drop (length fr) (replicate 550 0)) = rw (n, d, own, w) in
+      let h : held_in line ≡ (Some (length fr), fr ++ drop (length fr) (replicate 550 0)) = rw (n, d, own, w) in
       let p = paired (keep (λ c. not (eqb c 32)) line) fr (unfold frame_of in e) in
       inr (
         rw (n, e, w),
@@ -113,8 +115,8 @@ line_reads line = by_cases (ltb 1100 (length line))
     (λ e. reads_short line (ltb-false 1100 (length line) e) (frame_of line) refl)
 
 -- no frame is held exactly where the line is bad
-pub bad_exactly : (line : List ℕ) → ((held_in line).0 ≡ 0) ↔ (line_bad line ≡ true)
+pub bad_exactly : (line : List ℕ) → ((held_in line).0 ≡ None) ↔ (line_bad line ≡ true)
 bad_exactly line = elim (line_reads line) [
   | inl (b, z) ↦ ((λ e. b), λ e. z)
-  | inr (b, c) ↦ ((λ e. absurd (omega (arith, c.1.count, c.1.some_bytes))), λ e. clash _ e b)
+  | inr (b, c) ↦ ((λ e. let h = c.1.count in cc), λ e. clash _ e b)
 ]

@@ -77,15 +77,15 @@ module _ (t f : List ℕ) (small : (i : ℕ) → Fits w8 (get_or f i 0)) (w : Se
           output = refl;
         })
 
-    carried_line : Goal (answered t f w (part 0 (held_in line).0 (held_in line).1) out)
+    carried_line : Goal (answered t f w (part 0 (length fr) (held_in line).1) out)
     unfolding answered
     carried_line = rw c.held (framed_line (frame_on t f w fr (replicate 200 0)) frame_answers)
 
   plays : Goal (line_on t f w line out)
   unfolding line_on
   plays = elim (line_reads line) [
-    | inl (b, z) ↦ rw (eq-eqb (held_in line).0 0 z) (bad_line b)
-    | inr (b, c) ↦ rw (ne_eqb (held_in line).0 0 (λ z. omega (arith, c.1.count, c.1.some_bytes))) (carried_line c.0 b c.1)
+    | inl (b, z) ↦ rw z (bad_line b)
+    | inr (b, c) ↦ rw c.1.count (carried_line c.0 b c.1)
   ]
 
   pub line_plays : (p : Played) (t' f' out' : List ℕ) → line_on t f w line out ≡ (p, t', f', out') → LinePlays t f w line out p t' f' out'

@@ -1,0 +1,20 @@
+use Rattle.std.proofs.Common.{rules, refl, arith}
+use Rattle.frames_model.specs.Texts.{decode_on}
+use Rattle.frames.proofs.Laws.Lines.{decode_end, decode_stop, decode_next}
+use Rattle.frames.proofs.hex.decode.Goals as goal
+
+pub loop-c-init : goal.loop-c-init
+unfolding decode_on
+loop-c-init c = refl
+
+pub returns-in_err-s : goal.returns-in_err-s
+returns-in_err-s c = rw c.from_residual.ensures (decode_stop _ _ _ _ _ c.loop-c.invariant _ _ c.loop-c-test.true c.take_character.ensures c.in_err-s.was)
+
+pub loop-c-preserved : goal.loop-c-preserved
+loop-c-preserved c = search (decode_next, rules)
+
+pub returns-in-None : goal.returns-in-None
+returns-in-None c = grind (arith, decode_end _ _ _ _ _ c.loop-c.invariant c.loop-c-test.false)
+
+pub returns-in-Some : goal.returns-in-Some
+returns-in-Some c = grind (arith, decode_end _ _ _ _ _ c.loop-c.invariant c.loop-c-test.false)
