@@ -15,34 +15,36 @@ pub struct Disk {
     pub written: usize,
 }
 
-// A line at the journal's end.
-pub(crate) fn append(d: &mut Disk, line: &[u8]) -> io::Result<()> {
-    d.journal.write_all(line)?;
-    d.written = d.written.wrapping_add(line.len());
-    d.journal.sync_data()
-}
-
-// Page `page` of `file` over the old one.
-pub(crate) fn store(d: &Disk, file: &[u8], page: usize) -> io::Result<()> {
-    let Some(data) = &d.data else {
-        return Err(Error::new(ErrorKind::NotFound, "there is no data file"));
-    };
-    if page == 0 || 128 < page {
-        return Err(Error::new(ErrorKind::InvalidInput, "there is no such page"));
+impl Disk {
+    // A line at the journal's end.
+    pub fn append(&mut self, line: &[u8]) -> io::Result<()> {
+        self.journal.write_all(line)?;
+        self.written = self.written.wrapping_add(line.len());
+        self.journal.sync_data()
     }
-    let number = page as u32;
-    let start = 512 * (number - 1);
-    let put = data.write_at(room::page_of(file, number), start as u64)?;
-    if put != 512 {
-        return Err(Error::new(ErrorKind::WriteZero, "a page was not written whole"));
-    }
-    data.sync_data()
-}
 
-// The journal emptied.
-pub(crate) fn empty(d: &mut Disk) -> io::Result<()> {
-    d.journal.set_len(0)?;
-    d.journal.rewind()?;
-    d.written = 0;
-    d.journal.sync_data()
+    // Page `page` of `file` over the old one.
+    pub fn store(&self, file: &[u8], page: usize) -> io::Result<()> {
+        let Some(data) = &self.data else {
+            return Err(Error::new(ErrorKind::NotFound, "there is no data file"));
+        };
+        if page == 0 || 128 < page {
+            return Err(Error::new(ErrorKind::InvalidInput, "there is no such page"));
+        }
+        let number = page as u32;
+        let start = 512 * (number - 1);
+        let put = data.write_at(room::page_of(file, number), start as u64)?;
+        if put != 512 {
+            return Err(Error::new(ErrorKind::WriteZero, "a page was not written whole"));
+        }
+        data.sync_data()
+    }
+
+    // The journal emptied.
+    pub fn empty(&mut self) -> io::Result<()> {
+        self.journal.set_len(0)?;
+        self.journal.rewind()?;
+        self.written = 0;
+        self.journal.sync_data()
+    }
 }

@@ -4,36 +4,31 @@
 // a name of its own: once it has its line end, the new file is the one in force, and a start makes it again. The data file is written, and last
 // the line takes the table's name.
 use crate::disk::Disk;
-use crate::{disk, files, names};
-use page::bytes;
-use std::fs::File;
-use std::io;
+use crate::names;
+use crate::names::Names;
+use std::fs::{File, Files, OpenOptions};
 use std::io::{Seek, Write};
+use std::{fs, io};
 
-// A line, and then its line end, each on the disk before the next.
-fn write_line(file: &mut File, line: &[u8]) -> io::Result<()> {
-    file.write_all(line)?;
-    file.sync_data()?;
-    file.write_all(b"\n")?;
-    file.sync_data()
+// The new table beside the data file: its line, and then the line end, each on the disk before the next.
+fn write_next(rt: &impl Files<File = File>, names: &Names<'_>, line: &[u8]) -> io::Result<()> {
+    let mut next = File::create(rt, names.next.as_str())?;
+    next.write_all(line)?;
+    next.sync_data()?;
+    next.write_all(b"\n")?;
+    next.sync_data()?;
+    drop(next);
+    names::sync_folder(rt, names.data)
 }
 
-// The new table beside the data file.
-fn write_next(rt: &HostRuntime, name: &[u8], line: &[u8]) -> io::Result<()> {
-    let mut path = [0u8; names::PATH];
-    let n = names::of_next(name, &mut path);
-    let mut next = files::open_overwrite(rt, bytes::part_of(&path, 0, n))?;
-    write_line(&mut next, line)?;
-    drop(next);
-    names::sync_folder(rt, name)
+// Opens a file that is there for reading and writing.
+pub fn open_update(rt: &impl Files<File = File>, name: &str) -> io::Result<File> {
+    OpenOptions::new().read(true).write(true).open(rt, name)
 }
 
 // The data file, which is made where it is missing.
-fn open_data(rt: &HostRuntime, name: &[u8]) -> io::Result<File> {
-    match files::open_update(rt, name) {
-        Ok(data) => Ok(data),
-        Err(_) => files::create(rt, name),
-    }
+fn open_data(rt: &impl Files<File = File>, name: &str) -> io::Result<File> {
+    open_update(rt, name).or_else(|_| File::create_new(rt, name))
 }
 
 // The whole data file written.
@@ -44,38 +39,34 @@ fn write_data(data: &mut File, file: &[u8]) -> io::Result<()> {
     data.sync_data()
 }
 
-// The new table takes the place of the old one.
-fn rename_table(rt: &HostRuntime, name: &[u8]) -> io::Result<()> {
-    let mut from = [0u8; names::PATH];
-    let n = names::of_next(name, &mut from);
-    let mut to = [0u8; names::PATH];
-    let m = names::of_table(name, &mut to);
-    files::rename(rt, bytes::part_of(&from, 0, n), bytes::part_of(&to, 0, m))?;
-    names::sync_folder(rt, name)
-}
-
-// The new table is in force: makes the data file under it, and gives it its name.
-pub(crate) fn finish(rt: &HostRuntime, name: &[u8], d: &mut Disk, file: &[u8]) -> io::Result<()> {
-    let mut data = match d.data.take() {
+// The new table is in force: makes the data file under it, and gives it the table's name.
+pub fn finish(
+    rt: &impl Files<File = File>,
+    names: &Names<'_>,
+    disk: &mut Disk,
+    file: &[u8],
+) -> io::Result<()> {
+    let mut data = match disk.data.take() {
         Some(data) => data,
-        None => open_data(rt, name)?,
+        None => open_data(rt, names.data)?,
     };
     write_data(&mut data, file)?;
-    d.data = Some(data);
-    d.size = file.len();
-    names::sync_folder(rt, name)?;
-    rename_table(rt, name)
+    disk.data = Some(data);
+    disk.size = file.len();
+    names::sync_folder(rt, names.data)?;
+    fs::rename(rt, names.next.as_str(), names.table.as_str())?;
+    names::sync_folder(rt, names.data)
 }
 
 // Puts `file` in place, made by the frame 00 on a line.
-pub(crate) fn put_in_place(
-    rt: &HostRuntime,
-    name: &[u8],
-    d: &mut Disk,
+pub fn put_in_place(
+    rt: &impl Files<File = File>,
+    names: &Names<'_>,
+    disk: &mut Disk,
     line: &[u8],
     file: &[u8],
 ) -> io::Result<()> {
-    disk::empty(d)?;
-    write_next(rt, name, line)?;
-    finish(rt, name, d, file)
+    disk.empty()?;
+    write_next(rt, names, line)?;
+    finish(rt, names, disk, file)
 }

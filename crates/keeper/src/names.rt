@@ -1,74 +1,85 @@
-// The names that belong to a data file: those of the files beside it, and its folder's.
-use crate::files;
-use change::copies;
-use page::bytes;
-use std::fs::File;
-use std::io;
-use table::keys;
+// The names that keeper is given, and those that belong to a data file: the files beside it, and its folder's.
+use arrayvec::ArrayString;
+use std::fmt::Write;
+use std::fs::{File, Files};
+use std::{io, str};
 
 // Room for any path.
 pub const PATH: usize = 4096;
 
 // The longest name of a data file: an ending and a path's last 0 fit behind it.
-pub const LONGEST: usize = 4000;
+const LONGEST: usize = 4000;
 
-const SLASH: u8 = 47;
-
-// Puts a name and an ending into `path`; the length of both.
-fn beside(name: &[u8], ending: &[u8], path: &mut [u8]) -> usize {
-    copies::put_part(path, 0, name);
-    copies::put_part(path, name.len(), ending);
-    std::num::wrapping_add_usize(name.len(), ending.len())
+// A data file, its journal, its table, and the table of a new data file that is being put in place.
+#[derive(Drop)]
+pub struct Names<'a> {
+    pub data: &'a str,
+    pub journal: &'a str,
+    pub table: ArrayString<PATH>,
+    pub next: ArrayString<PATH>,
 }
 
-// The name of the data file's table.
-pub(crate) fn of_table(name: &[u8], path: &mut [u8]) -> usize {
-    beside(name, b".table", path)
+// A name that keeper refuses, which need not be text, and why.
+#[derive(Clone, Copy)]
+pub struct BadName<'a> {
+    pub name: &'a [u8],
+    pub what: &'static str,
 }
 
-// The name of the table of a new data file that is being put in place.
-pub(crate) fn of_next(name: &[u8], path: &mut [u8]) -> usize {
-    beside(name, b".next", path)
+// A name as text: the library opens no file by another.
+fn text_of(name: &[u8]) -> Result<&str, BadName<'_>> {
+    str::from_utf8(name).map_err(|_| BadName {
+        name,
+        what: "the name is not UTF-8 text",
+    })
 }
 
-// Whether `other` is the name of the data file, or one of those that belong to it.
-pub(crate) fn is_of(name: &[u8], other: &[u8]) -> bool {
-    let mut table = [0u8; PATH];
-    let n = of_table(name, &mut table);
-    let mut next = [0u8; PATH];
-    let m = of_next(name, &mut next);
-    if keys::same_key(bytes::part_of(&table, 0, n), other) {
-        return true;
-    }
-    if keys::same_key(bytes::part_of(&next, 0, m), other) {
-        return true;
-    }
-    keys::same_key(name, other)
+// A name and an ending. `LONGEST` leaves room for both.
+fn beside(name: &str, ending: &str) -> ArrayString<PATH> {
+    let mut path = ArrayString::new();
+    let _ = write!(path, "{name}{ending}");
+    path
 }
 
-// How much of a name is its folder's, with the last slash.
-fn folder_in(name: &[u8]) -> usize {
-    let mut i = name.len();
-    while 0 < i {
-        if name[i - 1] == SLASH {
-            return i;
+impl<'a> Names<'a> {
+    // The names of a data file and of its journal, which is a file of its own.
+    pub fn new(data: &'a [u8], journal: &'a [u8]) -> Result<Names<'a>, BadName<'a>> {
+        if LONGEST < data.len() {
+            return Err(BadName {
+                name: data,
+                what: "the name is too long",
+            });
         }
-        i -= 1;
+        let names = Names {
+            data: text_of(data)?,
+            journal: text_of(journal)?,
+            table: beside(text_of(data)?, ".table"),
+            next: beside(text_of(data)?, ".next"),
+        };
+        if names.has(names.journal) {
+            return Err(BadName {
+                name: journal,
+                what: "the journal is a file of its own",
+            });
+        }
+        Ok(names)
     }
-    0
+
+    // Whether a name is the data file's, or one of those that belong to it.
+    fn has(&self, name: &str) -> bool {
+        name == self.data || name == self.table.as_str() || name == self.next.as_str()
+    }
 }
 
-// The folder of a name, the present one where it names none.
-fn open_folder(rt: &HostRuntime, name: &[u8]) -> io::Result<File> {
-    let n = folder_in(name);
-    if n == 0 {
-        return files::open_read(rt, b".");
+// The folder of a name, up to its last slash; the present one where it names none.
+fn folder_of(name: &str) -> &str {
+    match name.trim_end_matches(|c: char| c != '/') {
+        "" => ".",
+        folder => folder,
     }
-    files::open_read(rt, bytes::part_of(name, 0, n))
 }
 
 // Waits until names made or changed in the folder of `name` have reached the disk.
-pub(crate) fn sync_folder(rt: &HostRuntime, name: &[u8]) -> io::Result<()> {
-    let folder = open_folder(rt, name)?;
-    folder.sync_all()
+pub fn sync_folder(rt: &impl Files<File = File>, name: &str) -> io::Result<()> {
+    File::open(rt, folder_of(name))?.sync_all()
 }

@@ -1,382 +1,256 @@
 // What stands on the disk when keeper starts: the journal, a new table that was being put in place, the table and the data file; and recovery.
 use crate::disk::Disk;
-use crate::{files, fresh, names, says, through};
+use crate::names::Names;
+use crate::says::Stop;
+use crate::{fresh, names};
 use line_model::Session;
-use lines::{feed, format, line};
+use lines::{feed, format, input, line};
 use page::bytes;
-use std::fs::File;
+use std::fs::{File, Files};
 use std::io;
-use std::io::{Error, ErrorKind, Read};
+use std::io::{ErrorKind, Read};
 
-// What to go on with: the session and the disk. Where keeper has to stop there is none, and the function has said why.
+// What to go on with: the session and the disk.
 #[derive(Drop)]
 pub struct Opened {
     pub session: Session,
     pub disk: Disk,
 }
 
-// A table that was looked for: whether it is there, whether it could not be read, whether it is that of a new file that is being put in place, and the
-// length of its line, 0 where that is not whole.
+// What a start finds: no table; a table's line; or that of a new file that is being put in place.
 #[derive(Clone, Copy)]
-struct Found {
-    there: bool,
-    barred: bool,
-    is_new: bool,
-    line: usize,
+enum Found<'a> {
+    Nothing,
+    Table(&'a [u8]),
+    New(&'a [u8]),
 }
-
-// The first two bytes of every journal, as far as it goes: the high digits of a page number.
-const ZERO: u8 = 48;
 
 // A byte more than the longest line and its line end, so that a longer text is known.
 const KEPT: usize = 1102;
 
 // Opens the journal, or makes it, so that its name is on the disk before any line.
-fn open_journal(rt: &HostRuntime, name: &[u8]) -> io::Result<File> {
-    match files::open_update(rt, name) {
-        Ok(journal) => Ok(journal),
+fn open_journal(rt: &impl Files<File = File>, name: &str) -> io::Result<File> {
+    match fresh::open_update(rt, name) {
         Err(why) if why.kind() == ErrorKind::NotFound => make_journal(rt, name),
-        Err(why) => Err(why),
+        opened => opened,
     }
 }
 
 // Makes the journal.
-fn make_journal(rt: &HostRuntime, name: &[u8]) -> io::Result<File> {
-    let made = files::create(rt, name);
+fn make_journal(rt: &impl Files<File = File>, name: &str) -> io::Result<File> {
+    let made = File::create_new(rt, name);
     names::sync_folder(rt, name)?;
     made
 }
 
-// Whether what was read can be a journal; says so where it cannot, since recovery would empty the file.
-fn is_journal(rt: &HostRuntime, name: &[u8], read: &[u8], room: usize) -> bool {
-    if room <= read.len() {
-        says::wrong(rt, name, b"longer than any journal of keeper's");
-        return false;
+// Reads the journal into `room`. What can be none is refused, since recovery would empty the file: every journal begins with the high digits of a
+// page number, as far as it goes.
+fn read_journal<'a, 'n>(
+    journal: &mut File,
+    name: &'n str,
+    room: &'a mut [u8],
+) -> Result<&'a [u8], Stop<'n>> {
+    let n = input::read_full(journal, room);
+    if room.len() <= n {
+        return Err(Stop::Wrong(name, "longer than any journal of keeper's"));
     }
-    if !begins_one(read, 0) || !begins_one(read, 1) {
-        says::wrong(rt, name, b"not a journal");
-        return false;
+    let text = &room[..n];
+    if !text.iter().take(2).all(|&digit| digit == b'0') {
+        return Err(Stop::Wrong(name, "not a journal"));
     }
-    true
+    Ok(text)
 }
 
-// Whether byte `i` can be that of a journal's beginning.
-fn begins_one(read: &[u8], i: usize) -> bool {
-    if read.len() <= i {
-        return true;
-    }
-    read[i] == ZERO
-}
-
-// The length of the line that is all of a text, with its line end; 0 where it is not whole, and all of it where it is longer than any.
-fn line_in(text: &[u8], n: usize) -> usize {
+// The line that is all of what was read, with its line end; empty where it is not whole, and all of it where it is longer than any.
+fn line_in(text: &[u8], n: usize) -> &[u8] {
+    let read = bytes::part_of(text, 0, n);
     if text.len() <= n {
-        return n;
+        return read;
     }
-    if n == 0 {
-        return 0;
-    }
-    if bytes::byte_at(text, n - 1) != feed::LINE_END {
-        return 0;
-    }
-    n - 1
+    read.strip_suffix(&[feed::LINE_END]).unwrap_or(&[])
 }
 
-// A file that is missing, or that could not be read.
-fn none_found(rt: &HostRuntime, path: &[u8], is_new: bool, why: Error) -> Found {
-    let there = why.kind() != ErrorKind::NotFound;
-    if there {
-        says::refused(rt, path, why);
-    }
-    Found {
-        there,
-        barred: there,
-        is_new,
-        line: 0,
-    }
+// Reads a file of one line, if it is there, and waits until what was read is on the disk: a run that was killed may not have.
+fn read_line<'a, 'n>(
+    rt: &impl Files<File = File>,
+    path: &'n str,
+    text: &'a mut [u8],
+) -> Result<Option<&'a [u8]>, Stop<'n>> {
+    let mut file = match File::open(rt, path) {
+        Ok(file) => file,
+        Err(why) if why.kind() == ErrorKind::NotFound => return Ok(None),
+        Err(why) => return Err(Stop::Refused(path, why)),
+    };
+    let n = input::read_full(&mut file, text);
+    file.sync_data().map_err(|why| Stop::Refused(path, why))?;
+    Ok(Some(line_in(text, n)))
 }
 
-// Reads a file of one line, and waits until what was read is on the disk: a run that was killed may not have.
-fn read_line(rt: &HostRuntime, path: &[u8], text: &mut [u8], is_new: bool) -> Found {
-    match files::open_read(rt, path) {
-        Ok(mut file) => read_line_of(rt, path, &mut file, text, is_new),
-        Err(why) => none_found(rt, path, is_new, why),
+// Finds the new table beside the data file, or the table where there is no new one that is whole.
+fn find_table<'a, 'n>(
+    rt: &impl Files<File = File>,
+    names: &'n Names<'_>,
+    next: &'a mut [u8],
+    table: &'a mut [u8],
+) -> Result<Found<'a>, Stop<'n>> {
+    if let Some(line) = read_line(rt, names.next.as_str(), next)? {
+        if !line.is_empty() {
+            return Ok(Found::New(line));
+        }
     }
+    let line = read_line(rt, names.table.as_str(), table)?;
+    Ok(line.map_or(Found::Nothing, Found::Table))
 }
 
-// Reads the file of one line that was opened.
-fn read_line_of(
-    rt: &HostRuntime,
-    path: &[u8],
-    file: &mut File,
-    text: &mut [u8],
-    is_new: bool,
-) -> Found {
-    let n = files::read_full(file, text);
-    let synced = file.sync_data();
-    if let Err(why) = synced {
-        says::refused(rt, path, why);
-    }
-    Found {
-        there: true,
-        barred: synced.is_err(),
-        is_new,
-        line: line_in(text, n),
-    }
-}
-
-// Reads the table beside a data file.
-fn read_table(rt: &HostRuntime, name: &[u8], text: &mut [u8]) -> Found {
-    let mut path = [0u8; names::PATH];
-    let n = names::of_table(name, &mut path);
-    read_line(rt, bytes::part_of(&path, 0, n), text, false)
-}
-
-// Reads the new table beside it, or the table where there is no new one that is whole.
-fn find_table(rt: &HostRuntime, name: &[u8], text: &mut [u8]) -> Found {
-    let mut path = [0u8; names::PATH];
-    let n = names::of_next(name, &mut path);
-    let found = read_line(rt, bytes::part_of(&path, 0, n), text, true);
-    if found.barred {
-        return found;
-    }
-    if found.line == 0 {
-        return read_table(rt, name, text);
-    }
-    found
-}
-
-// Plays the line of a kept table, which makes a fresh file in memory; the session under it, with no words where it is no table.
-fn play_table(table: &mut [u16], file: &mut [u8], text: &[u8]) -> Session {
+// Plays the line of a kept table, which makes a fresh file in memory; the session under it, none where it is no table.
+fn play_table(table: &mut [u16], file: &mut [u8], text: &[u8]) -> Option<Session> {
     let mut out = [0u8; feed::PRINTED];
-    let played = line::play(table, file, format::start(), text, &mut out);
-    played.session
+    let session = line::play(table, file, format::start(), text, &mut out).session;
+    (session.words != 0).then_some(session)
 }
 
-// Reads a data file of `size` bytes, and no more.
-fn read_data(data: &mut File, file: &mut [u8], size: usize) -> bool {
-    if files::read_full(data, file) != size {
-        return false;
-    }
+// Reads a data file of as many bytes as `file` has, and no more.
+fn read_data(data: &mut File, file: &mut [u8]) -> bool {
     let mut more = [0u8; 1];
-    matches!(data.read(&mut more), Ok(0))
+    input::read_full(data, file) == file.len() && matches!(data.read(&mut more), Ok(0))
 }
 
 // Recovers the data file from the journal.
-fn recover(
-    rt: &HostRuntime,
-    name: &[u8],
+fn recover<'n>(
+    name: &'n str,
     file: &mut [u8],
     text: &[u8],
-    mut d: Disk,
-) -> Option<Disk> {
+    mut disk: Disk,
+) -> Result<Disk, Stop<'n>> {
     let mut stored = [0u8; 128];
-    let number = journal::gerunjap_recover(file, text, &mut stored);
-    if number != journal::RECOVERED {
-        says::wrong(
-            rt,
+    if journal::gerunjap_recover(file, text, &mut stored) != journal::RECOVERED {
+        return Err(Stop::Wrong(
             name,
-            b"refused with 13: a complete line is malformed or out of place",
-        );
-        return None;
+            "refused with 13: a complete line is malformed or out of place",
+        ));
     }
     let marks = bytes::part_of(&stored, 0, file.len() / 512);
     let first = plan::first_of_recovery(marks);
-    if let Err(why) = through::carry_out(&mut d, marks, file, file, first) {
-        says::refused(rt, name, why);
-        return None;
-    }
-    Some(d)
+    disk.carry_out(marks, file, file, first)
+        .map_err(|why| Stop::Refused(name, why))?;
+    Ok(disk)
 }
 
 // Opens the data file under its table, and recovers it.
-fn open_data(
-    rt: &HostRuntime,
-    name: &[u8],
-    journal_name: &[u8],
+fn open_data<'n>(
+    rt: &impl Files<File = File>,
+    names: &'n Names<'_>,
     table: &[u16],
     file: &mut [u8],
     text: &[u8],
     journal: File,
-) -> Option<Disk> {
+) -> Result<Disk, Stop<'n>> {
     let size = format::file_bytes(table);
-    let mut data = match files::open_update(rt, name) {
-        Ok(data) => data,
-        Err(why) => {
-            says::refused(rt, name, why);
-            return None;
-        }
+    let mut data = fresh::open_update(rt, names.data).map_err(|why| Stop::Refused(
+        names.data, why,
+    ))?;
+    let wrong = Stop::Wrong(names.data, "not of the size that its table asks");
+    let Some(file) = file.get_mut(..size) else {
+        return Err(wrong);
     };
-    if !read_data(&mut data, file, size) {
-        says::wrong(rt, name, b"not of the size that its table asks");
-        return None;
+    if !read_data(&mut data, file) {
+        return Err(wrong);
     }
-    if file.len() < size {
-        return None;
-    }
-    let d = Disk {
+    let disk = Disk {
         data: Some(data),
         journal,
         size,
         written: text.len(),
     };
-    recover(rt, journal_name, &mut file[0..size], text, d)
+    recover(names.journal, file, text, disk)
 }
 
 // Goes on from where there is no table: there must be no data file either, and nothing in the journal.
-fn open_none(
-    rt: &HostRuntime,
-    name: &[u8],
-    journal_name: &[u8],
+fn open_none<'n>(
+    rt: &impl Files<File = File>,
+    names: &'n Names<'_>,
     text: &[u8],
-    d: Disk,
-) -> Option<Disk> {
-    match files::open_read(rt, name) {
-        Ok(_) => {
-            says::wrong(rt, name, b"there is no table beside it");
-            return None;
-        }
+) -> Result<(), Stop<'n>> {
+    match File::open(rt, names.data) {
+        Ok(_) => return Err(Stop::Wrong(names.data, "there is no table beside it")),
         Err(why) if why.kind() == ErrorKind::NotFound => {}
-        Err(why) => {
-            says::refused(rt, name, why);
-            return None;
-        }
+        Err(why) => return Err(Stop::Refused(names.data, why)),
     }
-    if text.len() != 0 {
-        says::wrong(rt, journal_name, b"not empty, but there is no data file");
-        return None;
+    if text.is_empty() {
+        return Ok(());
     }
-    Some(d)
+    Err(Stop::Wrong(names.journal, "not empty, but there is no data file"))
 }
 
 // Goes on where a new file was being put in place: its table is whole.
-fn go_on(
-    rt: &HostRuntime,
-    name: &[u8],
-    journal_name: &[u8],
+fn go_on<'n>(
+    rt: &impl Files<File = File>,
+    names: &'n Names<'_>,
     file: &[u8],
     text: &[u8],
-    mut d: Disk,
-) -> Option<Disk> {
-    if text.len() != 0 {
-        says::wrong(
-            rt,
-            journal_name,
-            b"not empty, but a new data file was being put in place",
-        );
-        return None;
+    mut disk: Disk,
+) -> Result<Disk, Stop<'n>> {
+    if !text.is_empty() {
+        return Err(Stop::Wrong(
+            names.journal,
+            "not empty, but a new data file was being put in place",
+        ));
     }
-    if let Err(why) = fresh::finish(rt, name, &mut d, file) {
-        says::refused(rt, name, why);
-        return None;
-    }
-    Some(d)
-}
-
-// Opens what is there: the table found, played, and the journal's text read.
-fn open_under(
-    rt: &HostRuntime,
-    name: &[u8],
-    journal_name: &[u8],
-    table: &[u16],
-    file: &mut [u8],
-    text: &[u8],
-    d: Disk,
-    found: Found,
-    words: usize,
-) -> Option<Disk> {
-    if !found.there {
-        return open_none(rt, name, journal_name, text, d);
-    }
-    if words == 0 {
-        says::wrong(rt, name, b"the table beside it is not accepted");
-        return None;
-    }
-    if found.is_new {
-        let size = format::file_bytes(table);
-        let made = bytes::part_of(file, 0, size);
-        return go_on(rt, name, journal_name, made, text, d);
-    }
-    open_data(rt, name, journal_name, table, file, text, d.journal)
+    fresh::finish(rt, names, &mut disk, file).map_err(|why| Stop::Refused(names.data, why))?;
+    Ok(disk)
 }
 
 // Opens the data file or begins with none, with the journal's text read.
-fn open_files(
-    rt: &HostRuntime,
-    name: &[u8],
-    journal_name: &[u8],
+fn open_files<'n>(
+    rt: &impl Files<File = File>,
+    names: &'n Names<'_>,
     table: &mut [u16],
     file: &mut [u8],
     text: &[u8],
-    d: Disk,
-) -> Option<Opened> {
+    journal: File,
+) -> Result<Opened, Stop<'n>> {
+    let mut next = [0u8; KEPT];
     let mut kept = [0u8; KEPT];
-    let found = find_table(rt, name, &mut kept);
-    if found.barred {
-        return None;
-    }
-    let session = play_table(table, file, bytes::part_of(&kept, 0, found.line));
-    let disk = open_under(
-        rt,
-        name,
-        journal_name,
-        table,
-        file,
-        text,
-        d,
-        found,
-        session.words,
-    )?;
-    Some(Opened { session, disk })
-}
-
-// Reads the journal that was opened, and opens the rest.
-fn open_rest(
-    rt: &HostRuntime,
-    name: &[u8],
-    journal_name: &[u8],
-    table: &mut [u16],
-    file: &mut [u8],
-    room: &mut [u8],
-    mut journal: File,
-) -> Option<Opened> {
-    let n = files::read_full(&mut journal, room);
-    let text = bytes::part_of(room, 0, n);
-    if !is_journal(rt, journal_name, text, room.len()) {
-        return None;
-    }
-    let d = Disk {
+    let disk = Disk {
         data: None,
         journal,
         size: 0,
         written: 0,
     };
-    open_files(rt, name, journal_name, table, file, text, d)
+    let found = find_table(rt, names, &mut next, &mut kept)?;
+    let (Found::Table(line) | Found::New(line)) = found else {
+        open_none(rt, names, text)?;
+        let session = format::start();
+        return Ok(Opened { session, disk });
+    };
+    let Some(session) = play_table(table, file, line) else {
+        return Err(Stop::Wrong(names.data, "the table beside it is not accepted"));
+    };
+    let disk = if matches!(found, Found::New(_)) {
+        let made = bytes::part_of(file, 0, format::file_bytes(table));
+        go_on(rt, names, made, text, disk)?
+    } else {
+        open_data(rt, names, table, file, text, disk.journal)?
+    };
+    Ok(Opened { session, disk })
 }
 
 // Opens the journal and the data file, or begins with none. First it waits until the names that are there are on the disk: a run that was killed
 // may not have.
-pub(crate) fn open(
-    rt: &HostRuntime,
-    name: &[u8],
-    journal_name: &[u8],
+pub fn open<'n>(
+    rt: &impl Files<File = File>,
+    names: &'n Names<'_>,
     table: &mut [u16],
     file: &mut [u8],
     room: &mut [u8],
-) -> Option<Opened> {
-    if let Err(why) = names::sync_folder(rt, name) {
-        says::refused(rt, name, why);
-        return None;
+) -> Result<Opened, Stop<'n>> {
+    for name in [names.data, names.journal] {
+        names::sync_folder(rt, name).map_err(|why| Stop::Refused(name, why))?;
     }
-    if let Err(why) = names::sync_folder(rt, journal_name) {
-        says::refused(rt, journal_name, why);
-        return None;
-    }
-    match open_journal(rt, journal_name) {
-        Ok(journal) => open_rest(rt, name, journal_name, table, file, room, journal),
-        Err(why) => {
-            says::refused(rt, journal_name, why);
-            None
-        }
-    }
+    let mut journal = open_journal(rt, names.journal).map_err(|why| Stop::Refused(
+        names.journal,
+        why,
+    ))?;
+    let text = read_journal(&mut journal, names.journal, room)?;
+    open_files(rt, names, table, file, text, journal)
 }

@@ -1,37 +1,45 @@
-// What keeper says on standard error where it cannot go on.
-use std::io::{Cursor, Error, Write};
-use std::str;
+// Why keeper stops, as it says it on standard error.
+use arrayvec::ArrayString;
+use std::fmt;
+use std::fmt::{Display, Formatter, Write};
+use std::io::{Eprint, Error};
 
 // More than any error has to say.
 const WORDS: usize = 256;
 
-// Writes on standard error; where that fails, there is nobody to tell.
-pub(crate) fn say(rt: &HostRuntime, text: &[u8]) {
-    let _ = rt.stderr().write_all(text);
+// What is wrong with the file of a name, or why a call on it failed.
+#[derive(Drop)]
+pub enum Stop<'a> {
+    Wrong(&'a str, &'static str),
+    Refused(&'a str, Error),
 }
 
-// Says what is wrong with the file of a name.
-pub(crate) fn wrong(rt: &HostRuntime, name: &[u8], what: &[u8]) {
-    say(rt, b"keeper: ");
-    say(rt, name);
-    say(rt, b": ");
-    say(rt, what);
-    say(rt, b"\n");
-}
+// The system's words for an error, without its number.
+#[derive(Drop)]
+struct Words<'a>(&'a Error);
 
-// Says why a call on the file of a name failed: the system's words for it, without its number.
-pub(crate) fn refused(rt: &HostRuntime, name: &[u8], why: Error) {
-    let mut words = Cursor::new([0u8; WORDS]);
-    let _ = write!(words, "{why}");
-    let text = words.into_inner();
-    wrong(rt, name, words_in(&text).as_bytes());
-}
-
-// The words at the start of a text that ends in zeros.
-fn words_in(text: &[u8]) -> &str {
-    let all = str::from_utf8(text).unwrap_or("").trim_end_matches('\0');
-    match all.split_once(" (os error ") {
-        Some((words, _)) => words,
-        None => all,
+impl Display for Words<'_> {
+    fn fmt<W: Write>(&self, f: &mut Formatter<W>) -> fmt::Result {
+        let mut words = ArrayString::<WORDS>::new();
+        let _ = write!(words, "{}", self.0);
+        let all = words.as_str();
+        f.write_str(
+            all.split_once(" (os error ")
+                .map_or(all, |(words, _)| words),
+        )
     }
+}
+
+impl Display for Stop<'_> {
+    fn fmt<W: Write>(&self, f: &mut Formatter<W>) -> fmt::Result {
+        match self {
+            Stop::Wrong(name, what) => write!(f, "{name}: {what}"),
+            Stop::Refused(name, why) => write!(f, "{name}: {}", Words(why)),
+        }
+    }
+}
+
+// Says why keeper stops; where that fails, there is nobody to tell.
+pub fn say(rt: &impl Eprint, stop: Stop<'_>) {
+    let _ = eprintln!(rt; "keeper: {stop}");
 }

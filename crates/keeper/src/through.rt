@@ -1,5 +1,4 @@
 // Calls and recovery carried out through the journal: the writes that are due, in their order.
-use crate::disk;
 use crate::disk::Disk;
 use change::copies;
 use ledger::Due;
@@ -16,61 +15,56 @@ const LONG: usize = 65536;
 // More turns than any call or recovery has writes: two for each of 128 pages, ready and done.
 const TURNS: u16 = 300;
 
-// The write that is due.
-fn perform(d: &mut Disk, before: &[u8], after: &[u8], due: Due) -> io::Result<()> {
-    match due {
-        Due::Store(page) | Due::Back(page) => disk::store(d, after, page),
-        Due::Empty => disk::empty(d),
-        Due::Image(_) | Due::Ready | Due::Done => append_line(d, before, due),
+impl Disk {
+    // The write that is due.
+    fn perform(&mut self, before: &[u8], after: &[u8], due: Due) -> io::Result<()> {
+        match due {
+            Due::Store(page) | Due::Back(page) => self.store(after, page),
+            Due::Empty => self.empty(),
+            Due::Image(_) | Due::Ready | Due::Done => {
+                let mut line = [0u8; LINE];
+                let n = plan::put_line(before, due, &mut line).unwrap_or(0);
+                self.append(bytes::part_of(&line, 0, n as usize))
+            }
+        }
     }
-}
 
-// The line that is due, at the journal's end.
-fn append_line(d: &mut Disk, before: &[u8], due: Due) -> io::Result<()> {
-    let mut line = [0u8; LINE];
-    let n = plan::put_line(before, due, &mut line).unwrap_or(0);
-    disk::append(d, bytes::part_of(&line, 0, n as usize))
-}
+    // All writes from the first on, until one fails.
+    pub fn carry_out(
+        &mut self,
+        marks: &[u8],
+        before: &[u8],
+        after: &[u8],
+        first: Option<Due>,
+    ) -> io::Result<()> {
+        let mut next = first;
+        for _ in 0..TURNS {
+            let Some(due) = next else {
+                return Ok(());
+            };
+            self.perform(before, after, due)?;
+            next = plan::next(marks, due);
+        }
+        Err(Error::other("more writes than a call can have"))
+    }
 
-// All writes from the first on, until one fails.
-pub(crate) fn carry_out(
-    d: &mut Disk,
-    marks: &[u8],
-    before: &[u8],
-    after: &[u8],
-    first: Option<Due>,
-) -> io::Result<()> {
-    let mut next = first;
-    for _ in 0..TURNS {
-        let Some(due) = next else {
+    // What a call changed from `before` to `after`; then `before` is `after`. The journal is emptied where it has grown long: every call in it
+    // is done.
+    pub fn keep(&mut self, before: &mut [u8], after: &[u8]) -> io::Result<()> {
+        let mut space = [0u8; 128];
+        let Some(n) = plan::mark(before, after, &mut space) else {
             return Ok(());
         };
-        perform(d, before, after, due)?;
-        next = plan::next(marks, due);
+        let marks = bytes::part_of(&space, 0, n as usize);
+        let first = plan::first_of_call(marks);
+        if first.is_none() {
+            return Ok(());
+        }
+        self.carry_out(marks, before, after, first)?;
+        copies::put_part(before, 0, after);
+        if LONG < self.written {
+            self.empty()?;
+        }
+        Ok(())
     }
-    Err(Error::other("more writes than a call can have"))
-}
-
-// The journal emptied where it has grown long: every call in it is done.
-fn shorten(d: &mut Disk) -> io::Result<()> {
-    if d.written <= LONG {
-        return Ok(());
-    }
-    disk::empty(d)
-}
-
-// What a call changed from `before` to `after`; then `before` is `after`.
-pub(crate) fn keep(d: &mut Disk, before: &mut [u8], after: &[u8]) -> io::Result<()> {
-    let mut space = [0u8; 128];
-    let Some(n) = plan::mark(before, after, &mut space) else {
-        return Ok(());
-    };
-    let marks = bytes::part_of(&space, 0, n as usize);
-    let first = plan::first_of_call(marks);
-    if first.is_none() {
-        return Ok(());
-    }
-    carry_out(d, marks, before, after, first)?;
-    copies::put_part(before, 0, after);
-    shorten(d)
 }

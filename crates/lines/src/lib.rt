@@ -3,4 +3,5 @@
 
 pub mod feed;
 pub mod format;
+pub mod input;
 pub mod line;

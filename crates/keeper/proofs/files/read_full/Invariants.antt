@@ -1,9 +1,0 @@
--- `read_full` ends, since each turn leaves less to fill.
-use Rattle.std.proofs.Common.{length, ◌-◌, ◌≤◌, ◌≡◌}
-use Rattle.keeper.proofs.files.read_full.Given as goal
-
-abbrev pub invariant-loop-done : goal.invariant-loop-done
-invariant-loop-done l = (length l.text ≡ length l.initial.text) × (l.done ≤ length l.text)
-
-abbrev pub decreases-loop-done : goal.decreases-loop-done
-decreases-loop-done l = length l.text - l.done
