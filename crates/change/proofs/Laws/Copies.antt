@@ -8,7 +8,6 @@ use native.Mathlib.Nat.{add-zero}
 use lib.ListN.{length, get_or, set, drop, drop_of_length-le}
 use lib.Seq.{drop-cons}
 use Rattle.model.specs.Moves.{two_put, part_put}
-
 pub use Rattle.page.proofs.Laws.Writes.{part_put_past}
 
 -- put_two
