@@ -3,6 +3,7 @@ use crate::disk::Disk;
 use crate::names::Names;
 use crate::says::Stop;
 use crate::{fresh, names};
+use journal::back;
 use line_model::Session;
 use lines::{feed, format, input, line};
 use page::bytes;
@@ -123,12 +124,12 @@ fn recover<'n>(
     mut disk: Disk,
 ) -> Result<Disk, Stop<'n>> {
     let mut stored = [0u8; 128];
-    if journal::gerunjap_recover(file, text, &mut stored) != journal::RECOVERED {
-        return Err(Stop::Wrong(
+    back::recover(file, text, &mut stored).map_err(|_| {
+        Stop::Wrong(
             name,
             "refused with 13: a complete line is malformed or out of place",
-        ));
-    }
+        )
+    })?;
     let marks = bytes::part_of(&stored, 0, file.len() / 512);
     let first = plan::first_of_recovery(marks);
     disk.carry_out(marks, file, file, first)

@@ -3,7 +3,7 @@ ghost use Rattle.std.specs.Prelude.{◌≤◌, length};
 
 use std::io::Read;
 
-// Reads until `room` is full, the input ends or a read fails; how many bytes came.
+// Reads until `room` is full, the input ends or a read fails; how many bytes came. No `for`: a turn takes as many bytes as a reader gives.
 pub fn read_full(input: &mut impl Read, room: &mut [u8]) -> usize
     ensures { result ≤ length room.new }
 {

@@ -33,7 +33,8 @@ fn calculated_at(table: &[u16], file: &[u8], code: u32) -> Option<u16>
     words::is_calculated(table, kind).then_some((s % 65536) as u16)
 }
 
-// Puts where each calculated record starts into `list`; how many there are.
+// Puts where each calculated record starts into `list`; how many there are. A count, and no part of the list handed back: `gather_on` says
+// what all of the list is after it.
 fn gather(table: &[u16], file: &[u8], list: &mut [u16]) -> usize
     ensures { gather_on table.now file.now list.old ≡ (result, list.new) }
 {
