@@ -1,4 +1,3 @@
-use Rattle.std.proofs.Common.{rules, sym}
 use Rattle.lines.proofs.Laws.Formats.{words_first, fill_end, fill_next}
 use Rattle.lines.proofs.format.take_words.Goals as goal
 
