@@ -39,14 +39,14 @@ fn keep<'n, R: Files<File = File> + Print + Eprint>(
 }
 
 // Argument `i`; none where it is missing, empty or longer than any name.
-fn argument<'a>(rt: &impl Env, i: usize, room: &'a mut [u8]) -> Option<&'a [u8]> {
+fn argument<'a>(rt: &HostRuntime, i: usize, room: &'a mut [u8]) -> Option<&'a [u8]> {
     let n = rt.arg(i, room).ok()?;
     let name = &room[..n];
     (!name.is_empty()).then_some(name)
 }
 
 // Whether there is no argument `i`.
-fn is_missing(rt: &impl Env, i: usize) -> bool {
+fn is_missing(rt: &HostRuntime, i: usize) -> bool {
     let mut first = [0u8; 1];
     matches!(rt.arg(i, &mut first), Err(FillError::NotPresent))
 }
