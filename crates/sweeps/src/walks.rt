@@ -53,7 +53,13 @@ fn mark(marks: &mut [u8], code: u32)
 }
 
 // Whether a walk that has come from `before` to `first` comes home; what it meets is marked.
-pub(crate) fn walk_home<R: Ring>(ring: &R, marks: &mut [u8], home: u32, before: u32, first: u32) -> bool
+pub(crate) fn walk_home<R: Ring>(
+    ring: &R,
+    marks: &mut [u8],
+    home: u32,
+    before: u32,
+    first: u32,
+) -> bool
     ensures { walk_on 8256 (R.met ring.now) (R.back ring.now) home before first marks.old ≡ (result, marks.new) }
 {
     let mut last = before;
