@@ -1,4 +1,4 @@
-// Longer runs of bytes written by place, as far as there is room.
+// Words written by place, as far as there is room, and runs of bytes as `page` writes them.
 ghost use Rattle.std.specs.Prelude.{◌≡◌};
 ghost use Rattle.model.specs.Moves.{two_put};
 

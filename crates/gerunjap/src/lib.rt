@@ -29,23 +29,13 @@ fn code_at(words: &[u32], i: usize) -> u32
     words.get(i).copied().unwrap_or(0)
 }
 
-// Puts codes from `at` on, as far as there is room.
-fn put_codes(words: &mut [u32], at: usize, codes: &[u32])
-    ensures { part_put words.old at codes.now ≡ words.new }
-{
-    if at < words.len() {
-        let n = codes.len().min(words.len() - at);
-        words[at..at + n].copy_from_slice(&codes[..n]);
-    }
-}
-
 // The sixteen words from `at` on.
 #[tactic(auto, unfolding(gerunjap_model::specs::Lent::sixteen_of))]
 fn sixteen_at(words: &[u32], at: usize) -> [u32; 16]
     ensures { result ≡ sixteen_of words.now at }
 {
     let mut sixteen = [0; 16];
-    put_codes(&mut sixteen, 0, words.get(at..).unwrap_or(&[]));
+    writes::put_part(&mut sixteen, 0, words.get(at..).unwrap_or(&[]));
     sixteen
 }
 
@@ -65,9 +55,9 @@ pub fn currency_of(words: &[u32]) -> Currency
 pub fn put_currency(words: &mut [u32], cur: Currency)
     ensures { currency_put words.old cur ≡ words.new }
 {
-    put_codes(words, 0, &[cur.run]);
-    put_codes(words, 1, &cur.types);
-    put_codes(words, 17, &cur.chains);
+    writes::put_part(words, 0, &[cur.run]);
+    writes::put_part(words, 1, &cur.types);
+    writes::put_part(words, 17, &cur.chains);
 }
 
 // Puts an answer into 8 bytes: code 1, reference code 3, type 2, count 2.

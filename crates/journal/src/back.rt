@@ -44,7 +44,7 @@ fn put_back(file: &mut [u8], stored: &mut [u8], journal: &[u8], from: usize)
     // There are fewer images than bytes.
     for image in 0..journal.len() {
         let number = walk::page_said(journal, at);
-        if number == text::READY {
+        if number == text::READY_NUMBER {
             return;
         }
         put_page(file, stored, journal, at, number - 1);

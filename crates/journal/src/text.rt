@@ -11,9 +11,9 @@ use page::{bytes, lookup, writes};
 pub const LINE_END: u8 = 10;
 
 // The numbers of a ready and of a done line, 0000 and FFFF, as the file stores them.
-pub const READY: u16 = 0;
+pub const READY_NUMBER: u16 = 0;
 
-pub const DONE: u16 = 65535;
+pub const DONE_NUMBER: u16 = 65535;
 
 // The bytes of an image's line, and of a line of a number alone, with their line ends.
 pub const IMAGE_LINE: u16 = 1029;
@@ -121,7 +121,7 @@ pub fn put_start(out: &mut [u8], before: &[u8], after: &[u8], n: u8)
     ensures { start_put out.old before.now after.now n ≡ out.new }
 {
     let end = put_images(out, before, after, n);
-    put_mark(out, end, READY);
+    put_mark(out, end, READY_NUMBER);
 }
 
 // Puts the text of a call, up to its ready line; its length, 0 where no page differs. None, with nothing written, where the lengths differ or are

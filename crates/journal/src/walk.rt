@@ -56,8 +56,8 @@ fn mark_said(number: u16) -> Said
     ensures { result ≡ mark_said number }
 {
     match number {
-        text::READY => Said::Ready,
-        text::DONE => Said::Done,
+        text::READY_NUMBER => Said::Ready,
+        text::DONE_NUMBER => Said::Done,
         _ => Said::Malformed,
     }
 }

@@ -5,7 +5,8 @@ ghost use Rattle.std.specs.Prelude.{◌≡◌};
 ghost use Rattle.ledger.specs.Answers.{done_with, refused_with, outcome, refusal, refusal_number, outcome_of};
 ghost use Rattle.ledger.specs.Currency.{unset};
 
-// Code 0 where the call is done, else the number of its refusal; then the rest is 0.
+// Code 0 where the call is done, else the number of its refusal; then the rest is 0. A number with a constant for each refusal is the form that
+// the specification names, and C reads it; `Refusal` is the same below the public calls.
 #[derive(Clone, Copy)]
 pub struct Answer {
     pub code: u8,
@@ -113,7 +114,8 @@ impl Refusal {
     }
 }
 
-// The current record of the run, of each type and of each chain: codes in table order, 0 where there is none.
+// The current record of the run, of each type and of each chain: codes in table order, 0 where there is none, as in the links of a file and as C
+// lends them.
 #[derive(Clone, Copy)]
 pub struct Currency {
     pub run: u32,

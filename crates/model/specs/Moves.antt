@@ -13,8 +13,8 @@ use Rattle.model.specs.Writes.{three_put}
 unfoldable pub two_put : List ℕ → ℕ → ℕ → List ℕ
 two_put f i v = set (set f i (v / 256 % 256)) (i + 1) (v % 256)
 
--- the bytes d from `at` on, as far as there is room
-unfoldable pub part_put : List ℕ → ℕ → List ℕ → List ℕ
+-- the elements d, bytes or words, from `at` on, as far as there is room
+unfoldable pub part_put : {A : Type 0} → List A → ℕ → List A → List A
 part_put f at d = sets f at d
 
 -- what stands at i of a page once n bytes are opened at `at`: zeros there, and the rest moved up

@@ -50,7 +50,7 @@ pub struct Between {
     pub after: u32,
 }
 
-// A record found in a ring, and its place there; 0 where none was.
+// A record found in a ring, and its place there; 0 in the models where none was, for which the functions have an Option.
 #[derive(Clone, Copy)]
 pub struct Found {
     pub code: u32,

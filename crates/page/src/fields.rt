@@ -1,5 +1,5 @@
-// A record's fields by its code: 0, or no bytes, where there is no record. Numbers and no Options: `kind_in`, `next_in` and the
-// others are 0 there, as what a page says, and 0 is the null of a link in the file.
+// A record's fields by its code: 0, or no bytes, where there is no record. Numbers and no Options: callers compare a type or a link with
+// another, or hand it on, and an Option would be longer at each; `kind_in` and `next_in` say 0, the null of a link in the file.
 ghost use Rattle.std.specs.Prelude.{◌≡◌, ◌+◌};
 ghost use Rattle.ledger.specs.Numbers.{part};
 ghost use Rattle.ledger.specs.Table.{calc_key, sort_key};

@@ -1,5 +1,5 @@
 // A file's pages, read: bytes, records looked up by code, their fields and keys, room; and single bytes and links written.
-// Every function is total: what is not there reads as 0, and a write to it does nothing.
+// Every function is total: what is not there is None or reads as 0, and a write to it does nothing.
 #![tactic(auto)]
 
 pub mod bytes;

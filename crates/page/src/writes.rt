@@ -12,7 +12,7 @@ pub fn put_byte(f: &mut [u8], i: usize, b: u8)
 }
 
 // Puts `data` from `at` on, as far as there is room.
-pub fn put_part(f: &mut [u8], at: usize, data: &[u8])
+pub fn put_part<T: Copy>(f: &mut [T], at: usize, data: &[T])
     ensures { part_put f.old at «data».now ≡ f.new }
 {
     if at < f.len() {

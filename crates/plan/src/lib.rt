@@ -120,8 +120,8 @@ pub fn put_line(before: &[u8], due: Due, out: &mut [u8]) -> Option<u16>
 {
     match due {
         Due::Image(page) => put_image_line(before, page, out),
-        Due::Ready => put_mark_line(out, text::READY),
-        Due::Done => put_mark_line(out, text::DONE),
+        Due::Ready => put_mark_line(out, text::READY_NUMBER),
+        Due::Done => put_mark_line(out, text::DONE_NUMBER),
         Due::Store(_) | Due::Back(_) | Due::Empty => None,
     }
 }

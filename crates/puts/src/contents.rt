@@ -1,5 +1,5 @@
 // What a record is to hold, and where its keys place it.
-// `but` is a record's code, or 0 for none: the walks of `rings` compare it with codes read from links.
+// `but` is a record's code, or 0 for none: `has_key_in` and `between_in` pass over one code, and code 0 is no record's.
 ghost use Rattle.std.specs.Prelude.{◌≡◌};
 ghost use Rattle.ledger.specs.Table.{calc_key, sort_key};
 ghost use Rattle.ledger.specs.Pages.{home};

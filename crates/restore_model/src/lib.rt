@@ -21,7 +21,7 @@ pub enum Group {
 }
 
 // Where a walk over a journal stands: the last group, where this line starts, and whether it has digits only.
-// A flag beside the start and no Option: the walk's law (`At` of Walking) speaks of the start of a line with other characters too.
+// A flag beside the start and no Option: `start` moves on at every line end, whatever `good` says, so an Option of it is no plainer.
 #[derive(Clone, Copy)]
 pub struct Walk {
     pub group: Group,

@@ -18,7 +18,7 @@ fn may_stand(table: &[u16], kind: u16, size: u16, p: u16) -> bool
         && p <= words::kind_word(table, kind, words::HIGH_PAGE)
 }
 
-// The bytes that `line` takes from `at` on: 0 where no record of it begins there, None where one does that may not stand.
+// The bytes that `line` takes from `at` on, to be added up: 0 where no record of it begins there, None where one does that may not stand.
 #[tactic(auto, unfolding(audit_model::specs::Scan::taken))]
 fn taken_at(table: &[u16], page: &[u8], p: u16, at: usize, line: u8) -> Option<u16>
     ensures { unwrap_or result 65535 ≡ taken table.now page.now p at line }

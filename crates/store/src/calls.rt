@@ -1,5 +1,6 @@
 // The public calls: refusals 1 to 4, then the call's own work. Each comes back done, or refused with nothing changed.
-// Each asks `check` by itself. `check(..).and_then(|()| ..)` was tried in its place and is no plainer: each call is a closure over what is lent then.
+
+// Each asks `check` by itself: with the work handed on as a closure, which would hold the file that is lent for a change, a call is no shorter.
 // Table, file and currency stay side by side and no struct: the specification lends a table as a plain `&[u16]`, and hands currency by value.
 ghost use Rattle.std.specs.Prelude.{◌≡◌, [], ◌∷◌};
 ghost use Rattle.ledger.specs.Calls.{STORE, DIRECT, KEY, NEXT, PRIOR, MASTER, EACH, MODIFY, DELETE, CURRENT, FIND, RELINK, UNKNOWN};

@@ -13,13 +13,10 @@ use Rattle.ledger.specs.Promise.{Checks, ChecksSize, ComesBack, Plays, Formats, 
 use Rattle.store_model.specs.Checks.{size_refusal, refusal_on}
 use Rattle.store_model.specs.Calls.{format_call, store_call, direct_call, key_call, next_call, prior_call, master_call, each_call, modify_call, delete_call, read_call, current_call, find_call, relink_call, unknown_call}
 use Rattle.store_model.proofs.Comes.{format_comes, store_comes, direct_comes, key_comes, next_comes, prior_comes, master_comes, each_comes, modify_comes, delete_comes, read_comes, current_comes, find_comes, relink_comes, unknown_comes}
-use Rattle.store_laws.proofs.Checked.{checks_size, checks_all}
+use Rattle.store_laws.proofs.Checked.{checks_all}
 use Rattle.store_laws.proofs.Looked.{direct_plays, key_plays, current_plays, find_plays, next_plays, prior_plays, master_plays, each_plays, unknown_plays, read_reads}
 use Rattle.store_laws.proofs.Formatted.{format_formats}
 use Rattle.store_laws.proofs.Changed.{store_plays, modify_plays, delete_plays, relink_plays}
-
-pub check_size_promised : (t f : List ℕ) (n : ℕ) → n ≡ size_refusal t f → (n ≡ size_refusal t f) × ChecksSize t f n
-check_size_promised t f n e = (e, rw e (checks_size t f))
 
 pub format_promised : (t f : List ℕ) (cur : Currency) (r : Outcome) (f' : List ℕ) → format_call t f cur ≡ (r, f')
     → (format_call t f cur ≡ (r, f')) × (ComesBack (1 ∷ 2 ∷ []) f f' cur r × Formats t f f' cur r)

@@ -6,10 +6,10 @@ ghost use Rattle.audit_model.specs.Marks.{Walk, walk_on, sweep_on};
 use page::writes;
 
 // One mark a code. A byte and no bool: `walk_on` sets 1 in a list of numbers.
-pub const MARKS: usize = model::CODES as usize;
+pub(crate) const MARKS: usize = model::CODES as usize;
 
 // One ring.
-pub trait Ring {
+pub(crate) trait Ring {
     ghost met: { Self → List ℕ → ℕ → ℕ → ℕ };
 
     ghost back: { Self → ℕ → Bool };
@@ -24,7 +24,7 @@ pub trait Ring {
 }
 
 // The rings of a chain, or of CALC.
-pub trait Rings {
+pub(crate) trait Rings {
     ghost walks: { Self → ℕ → List ℕ → Walk };
 
     ghost unmet: { Self → List ℕ → ℕ → Bool };
@@ -40,7 +40,7 @@ pub trait Rings {
 
 // A link as it stands in a file, where 0 leads to no record.
 #[tactic(auto, unfolding(ledger::specs::Numbers::or_none))]
-pub fn link(code: u32) -> Option<u32>
+pub(crate) fn link(code: u32) -> Option<u32>
     ensures { result ≡ or_none code }
 {
     (code != 0).then_some(code)
@@ -53,7 +53,13 @@ fn mark(marks: &mut [u8], code: u32)
 }
 
 // Whether a walk that has come from `before` to `first` comes home; what it meets is marked.
-pub fn walk_home<R: Ring>(ring: &R, marks: &mut [u8], home: u32, before: u32, first: u32) -> bool
+pub(crate) fn walk_home<R: Ring>(
+    ring: &R,
+    marks: &mut [u8],
+    home: u32,
+    before: u32,
+    first: u32,
+) -> bool
     ensures { walk_on 8256 (R.met ring.now) (R.back ring.now) home before first marks.old ≡ (result, marks.new) }
 {
     let mut last = before;
@@ -73,7 +79,7 @@ pub fn walk_home<R: Ring>(ring: &R, marks: &mut [u8], home: u32, before: u32, fi
 }
 
 // The lowest start, from `first` on and below `end`, whose walk fails; all that walks meet is marked.
-pub fn astray<R: Rings>(rings: &R, marks: &mut [u8], first: u32, end: u32) -> Option<u32>
+pub(crate) fn astray<R: Rings>(rings: &R, marks: &mut [u8], first: u32, end: u32) -> Option<u32>
     ensures swept { sweep_on (R.walks rings.now) (run first (end - first)) marks.old ≡ (unwrap_or result 0, marks.new) }
     ensures within { IfSome result (λ start. (first ≤ start) × (start < end)) }
 {
@@ -86,7 +92,7 @@ pub fn astray<R: Rings>(rings: &R, marks: &mut [u8], first: u32, end: u32) -> Op
 }
 
 // The lowest code unmet.
-pub fn unmet<R: Rings>(rings: &R, marks: &[u8], pages: u16) -> Option<u32>
+pub(crate) fn unmet<R: Rings>(rings: &R, marks: &[u8], pages: u16) -> Option<u32>
     ensures { result ≡ or_none (first_of (R.unmet rings.now marks.now) (run 64 (64 * pages))) }
 {
     (64..64 + 64 * pages as u32).find(|&code| rings.is_unmet(marks, code))

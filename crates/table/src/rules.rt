@@ -1,5 +1,5 @@
 // Whether a table is accepted: its counts, then each type's row, then each chain's. Each function says whether its rule holds.
-// Class, order and duplicates are numbers and no enums: they are words of the lent table, and any number may stand there until
+// Class, order, duplicates and PRIORs are numbers and no enums: they are words of the lent table, and any number may stand there until
 // it is accepted; `class`, `order` and `duplicates` (ledger) are numbers too.
 ghost use Rattle.std.specs.Prelude.{◌≡◌, true, ◌↔◌};
 ghost use Rattle.ledger.specs.Numbers.{all, run};

@@ -63,8 +63,7 @@ fn merge_halves(table: &[u16], file: &[u8], list: &mut [u16], scratch: &mut [u16
 }
 
 // Sorts a list of at most 2^level records, where `scratch` has room for it.
-// By hand: the library's stable sort takes a buffer from a heap, and its unstable one may leave equal keys in another order than `sorted`, of
-// which all is proved that is known of twins.
+// By hand: the library's stable sort takes a buffer from a heap, and its unstable one may leave equal keys in another order than `sorted`.
 pub fn sort(table: &[u16], file: &[u8], list: &mut [u16], scratch: &mut [u16], level: u8)
     ensures { sorted (goes_before table.now file.now) (length scratch.old) level list.old ≡ list.new }
 {

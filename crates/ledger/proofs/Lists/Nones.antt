@@ -50,11 +50,6 @@ unfolding or_none
 some_not_zero zero e f z = cc
 some_not_zero (suc n) e f z = cc
 
-pub above_of_some : {r : Option ℕ} {a : ℕ} (n : ℕ) → r ≡ or_none n → r ≡ Some a → 0 < n
-unfolding or_none
-above_of_some zero e f = cc
-above_of_some (suc n) e f = omega arith
-
 pub unwrap_or_none : {r : Option ℕ} (n : ℕ) → r ≡ or_none n → unwrap_or r 0 ≡ n
 unfolding or_none
 unwrap_or_none zero e = rw e refl

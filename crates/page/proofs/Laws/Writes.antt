@@ -19,20 +19,20 @@ three_put_past f i v h =
 pub three_put_past_by : (f : List ℕ) (o k v : ℕ) → length f - o ≤ k → three_put f (o + k) v ≡ f
 three_put_past_by f o k v h = three_put_past f (o + k) v (omega arith)
 
-pub part_put_past : (f : List ℕ) (at : ℕ) (d : List ℕ) → length f ≤ at → part_put f at d ≡ f
+pub part_put_past : {A : Type 0} (f : List A) (at : ℕ) (d : List A) → length f ≤ at → part_put f at d ≡ f
 unfolding part_put
 part_put_past f at [] h = refl
 part_put_past f at (b ∷ d) h = rw (set_out f at b h) (part_put_past f (suc at) d (omega arith))
 
 -- what has no room is not written
-part_put-cut : (m : ℕ) (f : List ℕ) (at : ℕ) (d : List ℕ) → length f - at ≡ m → part_put f at d ≡ part_put f at (take m d)
+part_put-cut : {A : Type 0} (m : ℕ) (f : List A) (at : ℕ) (d : List A) → length f - at ≡ m → part_put f at d ≡ part_put f at (take m d)
 unfolding part_put
 part_put-cut zero f at d e = part_put_past f at d (omega arith)
 part_put-cut (suc m) f at [] e = refl
 part_put-cut (suc m) f at (b ∷ d) e = part_put-cut m (set f at b) (suc at) d (simp length-set (omega arith))
 
 -- put_part: n bytes of d are written
-pub part_put-mid : (f d ys : List ℕ) (at n k : ℕ) → n ≤ length d → at + n ≤ length f → (n < length d → at + n ≡ length f) → k ≡ n → ys ≡ take n d → part_put f at d ≡ put_mid at k f ys
+pub part_put-mid : {A : Type 0} (f d ys : List A) (at n k : ℕ) → n ≤ length d → at + n ≤ length f → (n < length d → at + n ≡ length f) → k ≡ n → ys ≡ take n d → part_put f at d ≡ put_mid at k f ys
 unfolding part_put
 part_put-mid f d ys at n k small within cut ek ey =
     let fits : sets f at d ≡ sets f at (take n d) = by_cases (ltb n (length d))

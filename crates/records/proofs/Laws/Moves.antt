@@ -15,19 +15,6 @@ pub rest_byte : (f : List ℕ) (i n : ℕ) → get_or (drop i f) n 0 ≡ get_or 
 rest_byte f i n = get_or-drop i f n 0
 
 -- a page filled place by place
-pub fill_first : (g : ℕ → ℕ) → fill_from g (replicate 512 0) 0 512 ≡ fill g
-unfolding fill
-fill_first g = refl
-
-module _ (g : ℕ → ℕ) (f : List ℕ) (i : ℕ) (x : List ℕ) (inv : fill_from g f i (512 - i) ≡ x) where
-  pub fill_next : (b : ℕ) → i < 512 → b ≡ g i → fill_from g (set f i b) (i + 1) (512 - (i + 1)) ≡ x
-  unfolding fill_from
-  fill_next b h eb = let e : 512 - i ≡ suc (512 - (i + 1)) = omega arith in rw eb (rw e at inv)
-
-  pub fill_end : 512 ≤ i → f ≡ x
-  unfolding fill_from
-  fill_end h = let e : 512 - i ≡ 0 = omega arith in rw e at inv
-
 length-fill : (g : ℕ → ℕ) (n i : ℕ) (f : List ℕ) → length (fill_from g f i n) ≡ length f
 unfolding fill_from
 length-fill g zero i f = refl
