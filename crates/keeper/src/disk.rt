@@ -17,14 +17,14 @@ pub struct Disk {
 
 impl Disk {
     // A line at the journal's end.
-    pub fn append(&mut self, line: &[u8]) -> io::Result<()> {
+    pub(crate) fn append(&mut self, line: &[u8]) -> io::Result<()> {
         self.journal.write_all(line)?;
         self.written = self.written.wrapping_add(line.len());
         self.journal.sync_data()
     }
 
     // Page `page` of `file` over the old one.
-    pub fn store(&self, file: &[u8], page: usize) -> io::Result<()> {
+    pub(crate) fn store(&self, file: &[u8], page: usize) -> io::Result<()> {
         let Some(data) = &self.data else {
             return Err(Error::new(ErrorKind::NotFound, "there is no data file"));
         };
@@ -41,7 +41,7 @@ impl Disk {
     }
 
     // The journal emptied.
-    pub fn empty(&mut self) -> io::Result<()> {
+    pub(crate) fn empty(&mut self) -> io::Result<()> {
         self.journal.set_len(0)?;
         self.journal.rewind()?;
         self.written = 0;

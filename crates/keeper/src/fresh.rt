@@ -22,7 +22,7 @@ fn write_next(rt: &impl Files<File = File>, names: &Names<'_>, line: &[u8]) -> i
 }
 
 // Opens a file that is there for reading and writing.
-pub fn open_update(rt: &impl Files<File = File>, name: &str) -> io::Result<File> {
+pub(crate) fn open_update(rt: &impl Files<File = File>, name: &str) -> io::Result<File> {
     OpenOptions::new().read(true).write(true).open(rt, name)
 }
 
@@ -40,7 +40,7 @@ fn write_data(data: &mut File, file: &[u8]) -> io::Result<()> {
 }
 
 // The new table is in force: makes the data file under it, and gives it the table's name.
-pub fn finish(
+pub(crate) fn finish(
     rt: &impl Files<File = File>,
     names: &Names<'_>,
     disk: &mut Disk,
@@ -59,7 +59,7 @@ pub fn finish(
 }
 
 // Puts `file` in place, made by the frame 00 on a line.
-pub fn put_in_place(
+pub(crate) fn put_in_place(
     rt: &impl Files<File = File>,
     names: &Names<'_>,
     disk: &mut Disk,

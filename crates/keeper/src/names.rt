@@ -43,7 +43,7 @@ fn beside(name: &str, ending: &str) -> ArrayString<PATH> {
 
 impl<'a> Names<'a> {
     // The names of a data file and of its journal, which is a file of its own.
-    pub fn new(data: &'a [u8], journal: &'a [u8]) -> Result<Names<'a>, BadName<'a>> {
+    pub(crate) fn new(data: &'a [u8], journal: &'a [u8]) -> Result<Names<'a>, BadName<'a>> {
         if LONGEST < data.len() {
             return Err(BadName {
                 name: data,
@@ -80,6 +80,6 @@ fn folder_of(name: &str) -> &str {
 }
 
 // Waits until names made or changed in the folder of `name` have reached the disk.
-pub fn sync_folder(rt: &impl Files<File = File>, name: &str) -> io::Result<()> {
+pub(crate) fn sync_folder(rt: &impl Files<File = File>, name: &str) -> io::Result<()> {
     File::open(rt, folder_of(name))?.sync_all()
 }

@@ -238,7 +238,7 @@ fn open_files<'n>(
 
 // Opens the journal and the data file, or begins with none. First it waits until the names that are there are on the disk: a run that was killed
 // may not have.
-pub fn open<'n>(
+pub(crate) fn open<'n>(
     rt: &impl Files<File = File>,
     names: &'n Names<'_>,
     table: &mut [u16],

@@ -38,7 +38,7 @@ fn made_a_file(text: &[u8], answer: &[u8]) -> bool {
 
 impl<'a, R: Files<File = File> + Print> Run<'a, R> {
     // A run from a session on, with the file in memory as it is on the disk.
-    pub fn new(
+    pub(crate) fn new(
         rt: &'a R,
         names: &'a Names<'a>,
         table: [u16; format::TABLE],
@@ -125,7 +125,7 @@ impl<'a, R: Files<File = File> + Print> Run<'a, R> {
     }
 
     // Plays all input. Text after the last line end is a line where it has any character. Last the journal, whose calls are all done, is emptied.
-    pub fn play(&mut self, input: &mut impl Read) -> io::Result<()> {
+    pub(crate) fn play(&mut self, input: &mut impl Read) -> io::Result<()> {
         self.take_all(input)?;
         if self.feed.held != 0 {
             self.end_line()?;

@@ -40,6 +40,6 @@ impl Display for Stop<'_> {
 }
 
 // Says why keeper stops; where that fails, there is nobody to tell.
-pub fn say(rt: &impl Eprint, stop: Stop<'_>) {
+pub(crate) fn say(rt: &impl Eprint, stop: Stop<'_>) {
     let _ = eprintln!(rt; "keeper: {stop}");
 }

@@ -30,7 +30,7 @@ impl Disk {
     }
 
     // All writes from the first on, until one fails.
-    pub fn carry_out(
+    pub(crate) fn carry_out(
         &mut self,
         marks: &[u8],
         before: &[u8],
@@ -50,7 +50,7 @@ impl Disk {
 
     // What a call changed from `before` to `after`; then `before` is `after`. The journal is emptied where it has grown long: every call in it
     // is done.
-    pub fn keep(&mut self, before: &mut [u8], after: &[u8]) -> io::Result<()> {
+    pub(crate) fn keep(&mut self, before: &mut [u8], after: &[u8]) -> io::Result<()> {
         let mut space = [0u8; 128];
         let Some(n) = plan::mark(before, after, &mut space) else {
             return Ok(());
