@@ -158,14 +158,14 @@ pub fn master(table: &[u16], file: &[u8], cur: Currency, j: u16) -> Result<Outco
 fn is_there(file: &[u8], first: u32, last: u32, code: u32) -> bool
     ensures { result ≡ there_in file.now first last code }
 {
-    (first..=last).contains(&code) && fields::kind_at(file, code) != 0
+    first <= code && code <= last && fields::kind_at(file, code) != 0
 }
 
-// The lowest such code.
+// The lowest such code. Codes below `first` are not gone through.
 fn first_from(file: &[u8], first: u32, last: u32) -> Option<u32>
     ensures { result ≡ or_none (first_in file.now first last) }
 {
-    (FIRST_CODE..END_OF_CODES).find(|&code| is_there(file, first, last, code))
+    (first.max(FIRST_CODE)..END_OF_CODES).find(|&code| is_there(file, first, last, code))
 }
 
 // EACH

@@ -29,8 +29,11 @@ fn ring_in_order(table: &[u16], file: &[u8], j: u16, m: u32) -> bool
 {
     let mut at = fields::next_at(table, file, j, m);
     for _turn in 0..model::CODES {
+        if at == m {
+            return true;
+        }
         let next = fields::next_at(table, file, j, at);
-        if at == m || next == m {
+        if next == m {
             return true;
         }
         if !in_order(table, file, j, at, next) {

@@ -44,8 +44,11 @@ pub fn find_line(page: &[u8], line: u8) -> Option<u16>
 {
     let mut at = HEADER_BYTES;
     for _turn in 0..LINES {
+        if LAST_HEAD <= at {
+            return None;
+        }
         let size = size_at(page, at);
-        if LAST_HEAD <= at || size == 0 {
+        if size == 0 {
             return None;
         }
         if line_at(page, at) == line {

@@ -11,20 +11,29 @@ pub fn put_byte(f: &mut [u8], i: usize, b: u8)
     }
 }
 
-// Puts `data` from `at` on, as far as there is room.
+// Puts `data` from `at` on, as far as there is room. One by one: the library's copy needs a `memmove`, which a host of the archives may not have.
 pub fn put_part<T: Copy>(f: &mut [T], at: usize, data: &[T])
     ensures { part_put f.old at «data».now ≡ f.new }
 {
     if at < f.len() {
         let n = data.len().min(f.len() - at);
-        f[at..at + n].copy_from_slice(&data[..n]);
+        for i in 0..n {
+            f[at + i] = data[i];
+        }
     }
 }
 
+// Byte by byte: a copy of a part whose length is not known to the compiler costs a call.
+#[tactic(auto, unfolding(model::specs::Writes::three_put), using(crate::proofs::Laws::Writes::three_put_past))]
 pub fn put_three(f: &mut [u8], i: usize, v: u32)
     ensures { three_put f.old i v ≡ f.new }
 {
-    put_part(f, i, &v.to_be_bytes()[1..]);
+    if i < f.len() {
+        let [_, high, middle, low] = v.to_be_bytes();
+        put_byte(f, i, high);
+        put_byte(f, i + 1, middle);
+        put_byte(f, i + 2, low);
+    }
 }
 
 // Puts `v` into the three bytes from `o + k` on.

@@ -42,5 +42,5 @@ pub fn same_key(a: &[u8], b: &[u8]) -> bool
 pub fn less_key(a: &[u8], b: &[u8]) -> bool
     ensures { result ≡ less_key a.now b.now }
 {
-    a < b
+    a.cmp(b).is_lt()
 }

@@ -2,7 +2,7 @@
 ghost use Rattle.std.specs.Prelude.{◌≡◌, length};
 ghost use Rattle.audit_model.specs.Sorting.{key_from, goes_before, second_first, merged, halves_merged, sorted};
 
-use page::bytes;
+use page::{bytes, writes};
 use table::{keys, sizes, words};
 
 // The CALC key of the record that starts at `s`.
@@ -59,7 +59,7 @@ fn merge_halves(table: &[u16], file: &[u8], list: &mut [u16], scratch: &mut [u16
     }
     let (first, second) = list.split_at(n / 2);
     merge(table, file, first, second, &mut scratch[..n]);
-    list.copy_from_slice(&scratch[..n]);
+    writes::put_part(list, 0, &scratch[..n]);
 }
 
 // Sorts a list of at most 2^level records, where `scratch` has room for it.

@@ -2,17 +2,16 @@ use Rattle.std.proofs.Common.{refl, arith}
 use Rattle.model.specs.Reads.{line_in}
 use Rattle.page.proofs.Laws.Lookup.{line_limit, line_end, line_here, line_next, line_out}
 use Rattle.page.proofs.lookup.find_line.Goals as goal
-use Rattle.page.proofs.lookup.find_line.Goals.{then-at-ge-LAST_HEAD-via-then-at-ge-LAST_HEAD, then-at-ge-LAST_HEAD-via-else-at-ge-LAST_HEAD+then-size-eq0}
 
 pub loop-turn-init : goal.loop-turn-init
 unfolding line_in
 loop-turn-init c = (omega arith, refl)
 
 pub returns-then-at-ge-LAST_HEAD : goal.returns-then-at-ge-LAST_HEAD
-returns-then-at-ge-LAST_HEAD c = elim c.then-at-ge-LAST_HEAD.branch [
-  | then-at-ge-LAST_HEAD-via-then-at-ge-LAST_HEAD w ↦ line_limit _ _ _ _ _ _ c.loop-turn.invariant.0 c.loop-turn.invariant.1 w.if-at-ge-LAST_HEAD.true
-  | then-at-ge-LAST_HEAD-via-else-at-ge-LAST_HEAD+then-size-eq0 w ↦ line_end _ _ _ _ _ _ c.loop-turn.invariant.0 c.loop-turn.invariant.1 (cc)
-]
+returns-then-at-ge-LAST_HEAD c = line_limit _ _ _ _ _ _ c.loop-turn.invariant.0 c.loop-turn.invariant.1 c.if-at-ge-LAST_HEAD.true
+
+pub returns-then-size-eq0 : goal.returns-then-size-eq0
+returns-then-size-eq0 c = line_end _ _ _ _ _ _ c.loop-turn.invariant.0 c.loop-turn.invariant.1 (cc)
 
 pub returns-then-line_at-line : goal.returns-then-line_at-line
 returns-then-line_at-line c = line_here _ _ _ _ _ _ c.loop-turn.invariant.0 c.loop-turn.invariant.1 (omega arith) (omega arith) (rw c.size_at-size.ensures at c.if-size-eq0.false) (cc)

@@ -1,4 +1,5 @@
-use Rattle.std.proofs.Common.{rules}
+use Rattle.std.proofs.Common.{rules, sym, ◌∙◌}
+use Rattle.model.proofs.Fills.{put_whole}
 use Rattle.twins.proofs.Laws.Sorting.{halves_short, halves_room}
 use Rattle.twins.proofs.sorting.merge_halves.Goals as goal
 
@@ -6,4 +7,4 @@ pub returns-then-scratch-n : goal.returns-then-scratch-n
 returns-then-scratch-n c = halves_short _ _ _ c.if-scratch-n.true
 
 pub returns : goal.returns
-returns c = halves_room _ _ _ _ _ _ _ _ (search rules) c.split_at.ensures.front c.split_at.ensures.back c.merge.ensures c.copy_from_slice.ensures.after
+returns c = halves_room _ _ _ _ _ _ _ _ (search rules) c.split_at.ensures.front c.split_at.ensures.back c.merge.ensures (sym c.put_part.ensures ∙ put_whole _ _ (search rules))
