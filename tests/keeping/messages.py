@@ -1,5 +1,7 @@
 """Bad starts: nothing is played, a message says why, and every file stays as it is."""
 
+import subprocess
+
 import draw
 import journal
 import player
@@ -116,8 +118,19 @@ def refuses(keeper, files, arguments=(DATA, JOURNAL)):
     return None if left == before else f"changed {[name for name in {*left, *before} if left.get(name) != before.get(name)]}"
 
 
+def unheard(keeper, files):
+    """A run that can't write its answer, with standard error closed: its message is in no file, and the next start goes on."""
+    keeper.put(files)
+    keeper.run()
+    line = format_line(keeper.rng, 1)
+    subprocess.run(["sh", "-c", 'exec "$0" "$@" > /dev/full 2>&-', keeper.program, DATA, JOURNAL], input=f"0A\n{line}\n".encode(),
+                   cwd=keeper.folder, timeout=60, check=False)
+    same("the start after an unheard message", keeper.run(), ("", ""))
+    keeper.seen["unheard"] += 1
+
+
 def messages(keeper):
-    """Bad starts of some games, and spoiled journals, which are refused or recovered from."""
+    """Bad starts of some games, and spoiled journals, which are refused or recovered from; messages that nobody hears."""
     wrong = {}
     for _ in range(BASES):
         files, lines = base(keeper.rng)
@@ -128,6 +141,7 @@ def messages(keeper):
             keeper.seen["bad starts"] += 1
             if found:
                 wrong[what] = found
+        unheard(keeper, files)
         for _ in range(SPOILED):
             spoiled_start(keeper, {**files, JOURNAL: power.spoiled(keeper.rng, files[JOURNAL], len(files[DATA]) // 512)})
     keeper.story = {}

@@ -71,8 +71,9 @@ fn take_character(frame: &mut [u8], s: Reading, c: u8) -> Option<Reading>
     take_digit(frame, s, v)
 }
 
-// Decodes a line into `frame`, which has room for half of it; spaces are skipped. How many bytes it has, or None where it is no frame.
-pub fn decode(line: &[u8], frame: &mut [u8]) -> Option<usize>
+// Decodes a line into `frame`, which has room for half of it; spaces are skipped. How many bytes it has; where it is no frame an error:
+// the bytes before a digit that waits for its second, 0 where a character is no digit or there is no room.
+pub fn decode(line: &[u8], frame: &mut [u8]) -> Result<usize, usize>
     ensures { decode_on line.now frame.old ≡ (result, frame.new) }
 {
     let mut s = Reading {
@@ -80,18 +81,24 @@ pub fn decode(line: &[u8], frame: &mut [u8]) -> Option<usize>
         count: 0,
     };
     for c in line {
-        s = take_character(frame, s, *c)?;
+        let Some(read) = take_character(frame, s, *c) else {
+            return Err(0);
+        };
+        s = read;
     }
     match s.high {
-        None => Some(s.count),
-        Some(_) => None,
+        None => Ok(s.count),
+        Some(_) => Err(s.count),
     }
 }
 
-// Puts the two digits of a byte into `out` at `at`.
-#[tactic(auto, using(crate::proofs::Laws::Prints::hex_is))]
+// Puts the two digits of a byte into `out` at `at`: byte by byte, since a part put takes twice the time.
+#[tactic(auto, using(crate::proofs::Laws::Prints::hex_is, crate::proofs::Laws::Prints::hex_past))]
 pub fn put_hex(out: &mut [u8], at: usize, b: u8)
     ensures { hex_put out.old at b ≡ out.new }
 {
-    writes::put_part(out, at, &[digit_of(b / 16), digit_of(b)]);
+    if at < out.len() {
+        writes::put_byte(out, at, digit_of(b / 16));
+        writes::put_byte(out, at + 1, digit_of(b));
+    }
 }

@@ -4,7 +4,8 @@ use mathlib.Core.Path.{◌≡◌, refl, ◌∙◌, ap}
 use mathlib.Core.Bool.{Bool, true, false, cond, not, and-false}
 use mathlib.Core.List.{List, [], ◌∷◌, ◌++◌, append_assoc}
 use mathlib.Core.Option.{Option, none, some, map}
-use Rattle.std.proofs.Common.{Some, None}
+use Rattle.std.proofs.Common.{Some, None, Ok}
+use Rattle.std.specs.Result.{result_ok}
 use native.Mathlib.Omega.{arith}
 use native.Mathlib.Nat.{add-zero, zero-add}
 use native.Mathlib.Numerals.{add-one}
@@ -76,8 +77,8 @@ no_digit c e = omega (arith, digit_small c, ltb-false (digit_value c) 16 e)
 
 -- what reading on from n bytes done, with n bytes in the frame, comes to
 abbrev Reads : Option (List ℕ) → ℕ → List ℕ → Decoded → Type 0
-Reads none n frame r = r.0 ≡ None
-Reads (some bs) n frame r = (n + length bs ≤ length frame) × (r ≡ (Some (n + length bs), sets frame n bs))
+Reads none n frame r = result_ok r.0 ≡ None
+Reads (some bs) n frame r = (n + length bs ≤ length frame) × (r ≡ (Ok (n + length bs), sets frame n bs))
 
 -- a state with n bytes done, and one with a first digit a besides
 abbrev even : ℕ → Reading
@@ -133,10 +134,10 @@ module _ (line frame : List ℕ) (room : length line ≤ 2 * length frame) where
   unfolding frame_of decode_on
   reads = (reads_from line).0 frame 0 (omega arith)
 
-  pub decode_none : frame_of line ≡ none → (decode_on line frame).0 ≡ None
+  pub decode_none : frame_of line ≡ none → result_ok (decode_on line frame).0 ≡ None
   decode_none e = rw e at reads
 
-  pub decode_some : (bs : List ℕ) → frame_of line ≡ some bs → decode_on line frame ≡ (Some (length bs), bs ++ drop (length bs) frame)
+  pub decode_some : (bs : List ℕ) → frame_of line ≡ some bs → decode_on line frame ≡ (Ok (length bs), bs ++ drop (length bs) frame)
   decode_some bs e =
       let (fits, h) = rw e at reads in
       h ∙ rw (sets-eq bs frame 0 (omega arith), zero-add)

@@ -1,5 +1,5 @@
 -- Hexadecimal text: a line's bytes put into a frame, and an answer put into an output; nothing is put where there is no place for it.
-use Rattle.std.specs.Prelude.{ℕ, ◌+◌, ◌*◌, ◌/◌, ◌%◌, Option, None, Some, cond, List, [], ◌∷◌, ◌++◌, length, take, set, eqb, leb}
+use Rattle.std.specs.Prelude.{ℕ, ◌+◌, ◌*◌, ◌/◌, ◌%◌, Option, None, Some, Result, Ok, Err, cond, List, [], ◌∷◌, ◌++◌, length, take, set, eqb, leb}
 use Rattle.std.proofs.lemmas.List.Edits.{sets}
 use Rattle.ledger.specs.declared.Answer.{Answer}
 use Rattle.ledger.specs.Numbers.{digits}
@@ -28,20 +28,20 @@ step_on frame s c =
     cond (eqb c 32) (Some s, frame)
     (cond (eqb (digit_value c) 16) (None, frame) (digit_on frame s (digit_value c)))
 
--- how many bytes are read where no digit waits for its second
-abbrev pub bytes_read : Reading → Option ℕ
-bytes_read s = by_option s.high (Some s.count) (λ h. None)
+-- how many bytes are read; an error where a digit waits for its second, with those before it
+abbrev pub bytes_read : Reading → Result ℕ ℕ
+bytes_read s = by_option s.high (Ok s.count) (λ h. Err s.count)
 
--- how many bytes a line has, none where it is no frame, and the bytes that were lent for it
+-- how many bytes a line has, an error where it is no frame, and the bytes that were lent for it
 abbrev pub Decoded : Type 0
-Decoded = Option ℕ × List ℕ
+Decoded = Result ℕ ℕ × List ℕ
 
--- the characters of a line read, from a state on
+-- the characters of a line read, from a state on; no bytes are told of at a fault
 unfoldable pub decode_from : List ℕ → List ℕ → Reading → Decoded
 decode_from [] frame s = (bytes_read s, frame)
 decode_from (c ∷ cs) frame s =
     let p : Option Reading × List ℕ = step_on frame s c in
-    by_option p.0 (None, p.1) (λ r. decode_from cs p.1 r)
+    by_option p.0 (Err 0, p.1) (λ r. decode_from cs p.1 r)
 
 unfoldable pub decode_on : List ℕ → List ℕ → Decoded
 decode_on line frame = decode_from line frame unread

@@ -1,6 +1,7 @@
 // The images of a journal's last group, put back into the file.
 ghost use Rattle.std.specs.Prelude.{◌≡◌, length};
-ghost use Rattle.restore_model.specs.Walks.{image_at, next_image, page_put, back_from, untold, restored_on, recovery_on};
+ghost use Rattle.restore_model.specs.Walks.{image_at, next_image, page_put, back_from, untold, restored_on, recovery_on, status};
+ghost use Rattle.ledger.specs.Journal.Promises.{Restores};
 
 use crate::{text, walk};
 use change::copies;
@@ -67,15 +68,16 @@ pub fn restore(file: &mut [u8], journal: &[u8], stored: &mut [u8], n: u8, w: Wal
     ensures { restored_on file.old journal.now stored.old n w ≡ (file.new, stored.new) }
 {
     tell_none(stored, n);
-    if let Group::Readied { from } = w.group {
-        put_back(file, stored, journal, from);
+    if w.group == Group::Readied {
+        put_back(file, stored, journal, w.from);
     }
 }
 
 // Recovers the file, and tells in `stored` the pages put back. Where it is refused nothing is changed.
 #[tactic(auto, unfolding(restore_model::specs::Walks::recovery_on))]
 pub fn recover(file: &mut [u8], journal: &[u8], stored: &mut [u8]) -> Result<(), Refused>
-    ensures { recovery_on file.old journal.now stored.old ≡ (result, file.new, stored.new) }
+    ensures computed { recovery_on file.old journal.now stored.old ≡ (result, file.new, stored.new) }
+    ensures restores { Restores file.old journal.now stored.old (status result) file.new stored.new }
 {
     let n = text::pages_in(file.len()).ok_or(Refused::BadSize)?;
     if stored.len() < n as usize {

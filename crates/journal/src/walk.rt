@@ -1,6 +1,6 @@
 // A journal walked once, byte by byte: what its last group is, and where it starts.
 ghost use Rattle.std.specs.Prelude.{◌≡◌, ◌+◌};
-ghost use Rattle.restore_model.specs.Walks.{hex_at, page_said, mark_said, image_said, said_in, group_after, line_read, byte_read, walk_on};
+ghost use Rattle.restore_model.specs.Walks.{hex_at, page_said, mark_said, image_said, said_in, rises, group_after, from_after, line_read, byte_read, walk_on};
 
 use crate::text;
 use frames::hex;
@@ -73,22 +73,37 @@ fn image_said(n: u8, page: u16) -> Said
     Said::Image(page)
 }
 
-// The group after a line that starts at `start`.
-fn group_after(group: Group, said: Said, start: usize) -> Group
-    ensures { result ≡ group_after group said start }
+// Whether a page is above what the line before it said.
+fn rises(last: Said, page: u16) -> bool
+    ensures { result ≡ rises last page }
+{
+    match last {
+        Said::Image(before) => before < page,
+        Said::Ready => 0 < page,
+        Said::Done | Said::Malformed => false,
+    }
+}
+
+// The group after a line, where the line before it said `last`.
+fn group_after(group: Group, last: Said, said: Said) -> Group
+    ensures { result ≡ group_after group last said }
 {
     match (group, said) {
-        (Group::Finished, Said::Image(page)) => Group::Imaged {
-            from: start,
-            last: page,
-        },
-        (Group::Imaged { from, last }, Said::Image(page)) if last < page => Group::Imaged {
-            from,
-            last: page,
-        },
-        (Group::Imaged { from, .. }, Said::Ready) => Group::Readied { from },
-        (Group::Readied { .. }, Said::Done) => Group::Finished,
+        (Group::Finished, Said::Image(_)) => Group::Imaged,
+        (Group::Imaged, Said::Image(page)) if rises(last, page) => Group::Imaged,
+        (Group::Imaged, Said::Ready) => Group::Readied,
+        (Group::Readied, Said::Done) => Group::Finished,
         _ => Group::Wrong,
+    }
+}
+
+// Where the group starts after a line that starts at `start`.
+fn from_after(group: Group, from: usize, start: usize) -> usize
+    ensures { result ≡ from_after group from start }
+{
+    match group {
+        Group::Finished => start,
+        _ => from,
     }
 }
 
@@ -99,7 +114,9 @@ fn read_line(journal: &[u8], n: u8, w: Walk, next: usize) -> Walk
 {
     let said = line_says(journal, n, w.start, next, w.good);
     Walk {
-        group: group_after(w.group, said, w.start),
+        group: group_after(w.group, w.last, said),
+        last: said,
+        from: from_after(w.group, w.from, w.start),
         start: next,
         good: true,
     }
@@ -125,6 +142,8 @@ pub fn walk(journal: &[u8], n: u8) -> Walk
 {
     let mut w = Walk {
         group: Group::Finished,
+        last: Said::Ready,
+        from: 0,
         start: 0,
         good: true,
     };

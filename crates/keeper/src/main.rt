@@ -16,12 +16,41 @@ use run::Run;
 use says::Stop;
 use std::env::{Env, FillError};
 use std::fs::{File, Files};
+use std::io;
 use std::io::{Eprint, Print, Read};
 
 // More than a journal of keeper's has.
 const JOURNAL: usize = 262144;
 
-// Keeps a data file: opens it, and plays what comes in.
+// Opens a data file. Never inlined, as `play`, so that what the journal is read into is off the stack while calls are played.
+#[inline(never)]
+fn open<'n>(
+    rt: &impl Files<File = File>,
+    names: &'n Names<'_>,
+    table: &mut [u16],
+    file: &mut [u8],
+) -> Result<Opened, Stop<'n>> {
+    let mut room = [0u8; JOURNAL];
+    opening::open(rt, names, table, file, &mut room)
+}
+
+// Plays what comes in on an open data file, whose files are then closed.
+#[inline(never)]
+fn play<'n, R: Files<File = File> + Print>(
+    rt: &'n R,
+    names: &'n Names<'n>,
+    table: &[u16; format::TABLE],
+    file: &[u8; run::FILE],
+    opened: Opened,
+    input: &mut impl Read,
+) -> io::Result<()> {
+    let Opened { session, disk } = opened;
+    let mut run = Run::new(rt, names, *table, *file, session, disk);
+    run.play(input)
+}
+
+// Keeps a data file: opens it, and plays what comes in. Its files are closed before a message is written: where standard error was closed
+// at the start, one of them has its descriptor.
 fn keep<'n, R: Files<File = File> + Print + Eprint>(
     rt: &'n R,
     names: &'n Names<'n>,
@@ -29,10 +58,8 @@ fn keep<'n, R: Files<File = File> + Print + Eprint>(
 ) -> Result<(), Stop<'n>> {
     let mut table = [0u16; format::TABLE];
     let mut file = [0u8; run::FILE];
-    let mut room = [0u8; JOURNAL];
-    let Opened { session, disk } = opening::open(rt, names, &mut table, &mut file, &mut room)?;
-    let mut run = Run::new(rt, names, table, file, session, disk);
-    run.play(input).map_err(|why| {
+    let opened = open(rt, names, &mut table, &mut file)?;
+    play(rt, names, &table, &file, opened, input).map_err(|why| {
         says::say(rt, Stop::Refused(names.data, why));
         Stop::Wrong(names.data, "stopped in a call; the next start recovers")
     })

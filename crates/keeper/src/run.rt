@@ -33,7 +33,7 @@ pub struct Run<'a, R> {
 // Whether a line is a frame 00 that was done, by its answer.
 fn made_a_file(text: &[u8], answer: &[u8]) -> bool {
     let mut frame = [0u8; line::FRAME];
-    hex::decode(text, &mut frame).is_some() && frame[0] == 0 && answer.starts_with(b"00")
+    hex::decode(text, &mut frame).is_ok() && frame[0] == 0 && answer.starts_with(b"00")
 }
 
 impl<'a, R: Files<File = File> + Print> Run<'a, R> {

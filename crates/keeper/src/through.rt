@@ -23,7 +23,7 @@ impl Disk {
             Due::Empty => self.empty(),
             Due::Image(_) | Due::Ready | Due::Done => {
                 let mut line = [0u8; LINE];
-                let n = plan::put_line(before, due, &mut line).unwrap_or(0);
+                let n = plan::put_line(before, Some(due), &mut line).unwrap_or(0);
                 self.append(bytes::part_of(&line, 0, n as usize))
             }
         }
@@ -43,7 +43,7 @@ impl Disk {
                 return Ok(());
             };
             self.perform(before, after, due)?;
-            next = plan::next(marks, due);
+            next = plan::next(marks, next);
         }
         Err(Error::other("more writes than a call can have"))
     }

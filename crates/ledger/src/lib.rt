@@ -4,6 +4,7 @@
 ghost use Rattle.std.specs.Prelude.{◌≡◌};
 ghost use Rattle.ledger.specs.Answers.{done_with, refused_with, outcome, refusal, refusal_number, outcome_of};
 ghost use Rattle.ledger.specs.Currency.{unset};
+ghost use Rattle.ledger.specs.Journal.Dues.{due_of};
 
 // Code 0 where the call is done, else the number of its refusal; then the rest is 0. A number with a constant for each refusal is the form that
 // the specification names, and C reads it; `Refusal` is the same below the public calls.
@@ -179,4 +180,23 @@ pub enum Due {
     Done,
     Back(usize),
     Empty,
+}
+
+impl Due {
+    // The write of a number, for who keeps it as one: 1 to 4 of a call, 5 and 6 of recovery; none of any other. Where the write is of no page,
+    // `page` is not looked at.
+    #[tactic(auto, unfolding(crate::specs::Journal::Dues::due_of))]
+    pub fn of(phase: u8, page: usize) -> Option<Self>
+        ensures { result ≡ due_of phase page }
+    {
+        match phase {
+            1 => Some(Due::Image(page)),
+            2 => Some(Due::Ready),
+            3 => Some(Due::Store(page)),
+            4 => Some(Due::Done),
+            5 => Some(Due::Back(page)),
+            6 => Some(Due::Empty),
+            _ => None,
+        }
+    }
 }

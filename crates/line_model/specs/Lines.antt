@@ -1,5 +1,6 @@
 -- A well-made frame played, and a line: what it comes to, the table, the file and the output after it.
-use Rattle.std.specs.Prelude.{ℕ, ◌*◌, Some, None, cond, List, [], ◌∷◌, ◌++◌, length, get_or, take, replicate, eqb, ltb}
+use Rattle.std.specs.Prelude.{ℕ, ◌*◌, Option, Some, None, cond, List, [], ◌∷◌, ◌++◌, length, get_or, take, replicate, eqb, ltb}
+use Rattle.std.specs.Result.{result_ok}
 use borrow.Rule.Slice.PartMut.{put_mid}
 use Rattle.ledger.specs.declared.Answer.{Answer}
 use Rattle.ledger.specs.declared.Outcome.{Outcome}
@@ -50,11 +51,14 @@ frame_on t f s frame b =
     cond (eqb (get_or frame 0 0) 0) (with_output b (format_frame t f s frame)) (with_table t (call_frame t f s frame b))
 
 -- a line's frame: its length, none where the line is bad, and the bytes that were lent for it
-unfoldable pub frame_in : List ℕ → List ℕ → Decoded
+abbrev pub FrameIn : Type 0
+FrameIn = Option ℕ × List ℕ
+
+unfoldable pub frame_in : List ℕ → List ℕ → FrameIn
 frame_in line b =
     let d : Decoded = decode_on line b in
     cond (ltb 1100 (length line)) (None, b)
-    (by_option d.0 (None, d.1) (λ n. cond (well_made (part 0 n d.1)) (Some n, d.1) (None, d.1)))
+    (by_option (result_ok d.0) (None, d.1) (λ n. cond (well_made (part 0 n d.1)) (Some n, d.1) (None, d.1)))
 
 unfoldable pub printed_on : List ℕ → Reply → List ℕ → Played × List ℕ
 printed_on out r b =
@@ -79,5 +83,5 @@ answered t f s frame out =
 
 unfoldable pub line_on : List ℕ → List ℕ → Session → List ℕ → List ℕ → Lined
 line_on t f s line out =
-    let d : Decoded = frame_in line (replicate 550 0) in
+    let d : FrameIn = frame_in line (replicate 550 0) in
     by_option d.0 (lined t f (bad_on out s)) (λ n. answered t f s (part 0 n d.1) out)

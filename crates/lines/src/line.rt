@@ -124,7 +124,7 @@ fn take_frame(line: &[u8], frame: &mut [u8]) -> Option<usize>
     if LINE < line.len() {
         return None;
     }
-    let count = hex::decode(line, frame)?;
+    let count = hex::decode(line, frame).ok()?;
     if !is_right(bytes::part_of(frame, 0, count)) {
         return None;
     }

@@ -2,7 +2,7 @@
 // A mark is a byte and no bool: recovery, lent to C, tells its pages so, and `first_of_recovery` and `next` read those too.
 #![tactic(auto)]
 
-ghost use Rattle.std.specs.Prelude.{◌≡◌, ◌+◌, set};
+ghost use Rattle.std.specs.Prelude.{◌≡◌, Some, ◌+◌, set};
 ghost use Rattle.ledger.specs.declared.Due.TheVariants.{Image};
 ghost use Rattle.ledger.specs.Journal.Dues.{marked, call_dues, recovery_dues, first_of};
 ghost use Rattle.ledger.specs.Journal.Promises.{Marks, Follows, PutsLine};
@@ -36,12 +36,14 @@ pub fn first_of_recovery(marks: &[u8]) -> Option<Due>
     Some(marked_after(marks, 0).map_or(Due::Empty, Due::Back))
 }
 
-// The write after `due`.
-pub fn next(marks: &[u8], due: Due) -> Option<Due>
+// The write after `due`; none after the last, and where nothing is due.
+#[tactic(auto, using(restore_model::proofs::Both::follows_from))]
+pub fn next(marks: &[u8], due: Option<Due>) -> Option<Due>
     ensures computed { result ≡ due_next marks.now due }
     ensures follows { Follows marks.now due result }
 {
-    match due {
+    let write = due?;
+    match write {
         Due::Image(page) => Some(marked_after(marks, page).map_or(Due::Ready, Due::Image)),
         Due::Ready => Some(marked_after(marks, 0).map_or(Due::Done, Due::Store)),
         Due::Store(page) => Some(marked_after(marks, page).map_or(Due::Done, Due::Store)),
@@ -89,7 +91,7 @@ pub fn mark(before: &[u8], after: &[u8], marks: &mut [u8]) -> Option<u8>
 
 // Puts the image of page `page` of `before`; its length, none where `before` has no such page or `out` has no room.
 fn put_image_line(before: &[u8], page: usize, out: &mut [u8]) -> Option<u16>
-    ensures { line_on before.now (Image page) out.old ≡ (result, out.new) }
+    ensures { line_on before.now (Some (Image page)) out.old ≡ (result, out.new) }
 {
     if page == 0
         || before.len() / lookup::PAGE_BYTES < page
@@ -112,13 +114,14 @@ fn put_mark_line(out: &mut [u8], number: u16) -> Option<u16>
     Some(text::MARK_LINE)
 }
 
-// Puts the line that is due at the front of `out`; its length. None, with nothing put, where what is due is no line, its page is none of `before`, or
+// Puts the line that is due at the front of `out`; its length. None, with nothing put, where no line is due, its page is none of `before`, or
 // `out` has no room.
-pub fn put_line(before: &[u8], due: Due, out: &mut [u8]) -> Option<u16>
+#[tactic(auto, using(restore_model::proofs::Both::puts_line_from), unfolding(restore_model::specs::Plans::line_on))]
+pub fn put_line(before: &[u8], due: Option<Due>, out: &mut [u8]) -> Option<u16>
     ensures computed { line_on before.now due out.old ≡ (result, out.new) }
     ensures puts { PutsLine before.now due out.old result out.new }
 {
-    match due {
+    match due? {
         Due::Image(page) => put_image_line(before, page, out),
         Due::Ready => put_mark_line(out, text::READY_NUMBER),
         Due::Done => put_mark_line(out, text::DONE_NUMBER),

@@ -16,12 +16,11 @@ use Rattle.ledger.proofs.Lists.Tests.{by_cases, both, clash}
 use Rattle.ledger.proofs.Lists.Sieves.{length_keep}
 use Rattle.ledger.proofs.Lists.Digits.{Bytes, nil_bytes, cons_bytes}
 use Rattle.std.proofs.Common.{Some, None}
-use Rattle.frames_model.specs.Texts.{Decoded}
 use Rattle.frames_model.proofs.Texts.{decode_none, decode_some}
-use Rattle.line_model.specs.Lines.{frame_in}
+use Rattle.line_model.specs.Lines.{FrameIn, frame_in}
 
 -- what a line's bytes are, in the player's buffer
-abbrev pub held_in : List ℕ → Decoded
+abbrev pub held_in : List ℕ → FrameIn
 held_in line = frame_in line (replicate 550 0)
 
 -- pairs of digits: bytes, half as many

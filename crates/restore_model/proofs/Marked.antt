@@ -148,19 +148,19 @@ none_there (c ∷ ds) d es h = absurd (let z : ◌≡◌ {A = ℕ} 0 1 = cc in o
 
 -- what comes after a write, by where it stands
 module _ (s : List ℕ) (d : Due) where
-  after_image : (rest es : List Due) → Among Image (marked s) (Ready ∷ rest) d es → due_next s d ≡ first_of es
+  after_image : (rest es : List Due) → Among Image (marked s) (Ready ∷ rest) d es → due_next s (Some d) ≡ first_of es
   after_image rest es a = rw (a.is, a.later) (due_past s Image Ready a.page a.before a.after rest a.pages)
 
-  after_ready : (es : List Due) → d ≡ Ready → es ≡ map Store (marked s) ++ (Done ∷ []) → due_next s d ≡ first_of es
+  after_ready : (es : List Due) → d ≡ Ready → es ≡ map Store (marked s) ++ (Done ∷ []) → due_next s (Some d) ≡ first_of es
   after_ready es is later = rw (is, later) (due_is s Store Done 0 [] ∙ rw (all_told s))
 
-  after_store : (es : List Due) → Among Store (marked s) (Done ∷ []) d es → due_next s d ≡ first_of es
+  after_store : (es : List Due) → Among Store (marked s) (Done ∷ []) d es → due_next s (Some d) ≡ first_of es
   after_store es a = rw (a.is, a.later) (due_past s Store Done a.page a.before a.after [] a.pages)
 
-  after_back : (es : List Due) → Among Back (marked s) (Empty ∷ []) d es → due_next s d ≡ first_of es
+  after_back : (es : List Due) → Among Back (marked s) (Empty ∷ []) d es → due_next s (Some d) ≡ first_of es
   after_back es a = rw (a.is, a.later) (due_past s Back Empty a.page a.before a.after [] a.pages)
 
-  after_last : (l : Due) (es : List Due) → due_next s l ≡ None → (ds : List Due) → l ∷ [] ≡ ds ++ (d ∷ es) → due_next s d ≡ first_of es
+  after_last : (l : Due) (es : List Due) → due_next s (Some l) ≡ None → (ds : List Due) → l ∷ [] ≡ ds ++ (d ∷ es) → due_next s (Some d) ≡ first_of es
   after_last l es none ds h =
       elim (first_or_later l [] ds d es h) [
         | inl (is, later) ↦ rw (is, later) none
@@ -168,7 +168,7 @@ module _ (s : List ℕ) (d : Due) where
       ]
 
   -- after the ready line, or at it
-  past_images : (ds es : List Due) → Ready ∷ (map Store (marked s) ++ (Done ∷ [])) ≡ ds ++ (d ∷ es) → due_next s d ≡ first_of es
+  past_images : (ds es : List Due) → Ready ∷ (map Store (marked s) ++ (Done ∷ [])) ≡ ds ++ (d ∷ es) → due_next s (Some d) ≡ first_of es
   past_images ds es h =
       elim (first_or_later Ready (map Store (marked s) ++ (Done ∷ [])) ds d es h) [
         | inl (is, later) ↦ after_ready es is later
@@ -179,19 +179,19 @@ module _ (s : List ℕ) (d : Due) where
       ]
 
   call_some : (ds es : List Due) → map Image (marked s) ++ (Ready ∷ (map Store (marked s) ++ (Done ∷ []))) ≡ ds ++ (d ∷ es)
-      → due_next s d ≡ first_of es
+      → due_next s (Some d) ≡ first_of es
   call_some ds es h =
       elim (stands Image (marked s) (Ready ∷ (map Store (marked s) ++ (Done ∷ []))) ds d es h) [
         | inl a ↦ after_image _ es a
         | inr (cs, e) ↦ past_images cs es e
       ]
 
-  call_follows : (ds es : List Due) (ps : List ℕ) → marked s ≡ ps → call_dues ps ≡ ds ++ (d ∷ es) → due_next s d ≡ first_of es
+  call_follows : (ds es : List Due) (ps : List ℕ) → marked s ≡ ps → call_dues ps ≡ ds ++ (d ∷ es) → due_next s (Some d) ≡ first_of es
   unfolding call_dues
   call_follows ds es [] e h = none_there ds d es h
   call_follows ds es (p ∷ ps) e h = call_some ds es (rw e h)
 
-  recovery_follows : (ds es : List Due) → recovery_dues (marked s) ≡ ds ++ (d ∷ es) → due_next s d ≡ first_of es
+  recovery_follows : (ds es : List Due) → recovery_dues (marked s) ≡ ds ++ (d ∷ es) → due_next s (Some d) ≡ first_of es
   unfolding recovery_dues
   recovery_follows ds es h =
       elim (stands Back (marked s) (Empty ∷ []) ds d es h) [
@@ -199,8 +199,9 @@ module _ (s : List ℕ) (d : Due) where
         | inr (cs, e) ↦ after_last Empty es refl cs e
       ]
 
-pub follows : (s : List ℕ) (d : Due) → Follows s d (due_next s d)
+pub follows : (s : List ℕ) (d : Option Due) → Follows s d (due_next s d)
 follows s d = record {
-  in_call = λ ds es h. call_follows s d ds es (marked s) refl h;
-  in_recovery = recovery_follows s d;
+  in_call = λ w ds es is h. rw is (call_follows s w ds es (marked s) refl h);
+  in_recovery = λ w ds es is h. rw is (recovery_follows s w ds es h);
+  nothing = λ is. rw is;
 }

@@ -8,7 +8,7 @@ use native.Mathlib.Nat.{zero-add}
 use lib.ListN.{length}
 use lib.Seq.{sets, sets-eq}
 use borrow.Author.Tests.{ne_eqb, lt-ltb, le-ltb}
-use Rattle.std.proofs.Common.{Some, None}
+use Rattle.std.proofs.Common.{Option, Some, None}
 use Rattle.ledger.specs.declared.Due.{Due}
 use Rattle.ledger.specs.declared.Due.TheVariants.{Image, Ready, Store, Done, Back, Empty}
 use Rattle.ledger.specs.Journal.Writes.{image_line, ready_line, done_line, append}
@@ -44,7 +44,7 @@ module _ (f : List ℕ) where
 
   module _ (out : List ℕ) where
     -- the line put, and the ways in which nothing is
-    put_is : (d : Due) (bs : List ℕ) → Line f d bs → InFile f d → length bs ≤ length out → line_on f d out ≡ (Some (length bs), sets out 0 bs)
+    put_is : (d : Due) (bs : List ℕ) → Line f d bs → InFile f (Some d) → length bs ≤ length out → line_on f (Some d) out ≡ (Some (length bs), sets out 0 bs)
     unfolding line_on
     put_is d bs (Line.image p) fits room =
         let (low, high) = fits p refl in
@@ -64,7 +64,7 @@ module _ (f : List ℕ) where
         let long = length_line (255 ∷ 255 ∷ []) in
         rw (le-ltb (length out) 5 (omega arith), mark_put_lem out 0 65535 (omega arith), long)
 
-    no_room_is : (d : Due) (bs : List ℕ) → Line f d bs → InFile f d → length out < length bs → line_on f d out ≡ (None, out)
+    no_room_is : (d : Due) (bs : List ℕ) → Line f d bs → InFile f (Some d) → length out < length bs → line_on f (Some d) out ≡ (None, out)
     unfolding line_on
     no_room_is d bs (Line.image p) fits short =
         let (low, high) = fits p refl in
@@ -73,12 +73,12 @@ module _ (f : List ℕ) where
     no_room_is d bs Line.ready fits short = let long = length_line (0 ∷ 0 ∷ []) in rw (lt-ltb (length out) 5 (omega arith))
     no_room_is d bs Line.done fits short = let long = length_line (255 ∷ 255 ∷ []) in rw (lt-ltb (length out) 5 (omega arith))
 
-    no_page_is : (d : Due) (p : ℕ) → d ≡ Image p → (p ≡ 0) ⊎ (length f < 512 * p) → line_on f d out ≡ (None, out)
+    no_page_is : (p : ℕ) → (p ≡ 0) ⊎ (length f < 512 * p) → line_on f (Some (Image p)) out ≡ (None, out)
     unfolding line_on
-    no_page_is d p e (inl z) = rw (e, z)
-    no_page_is d p e (inr short) = rw (e, ne_eqb p 0 (λ z. omega arith), lt-ltb (length f) (512 * p) short)
+    no_page_is p (inl z) = rw z
+    no_page_is p (inr short) = rw (ne_eqb p 0 (λ z. omega arith), lt-ltb (length f) (512 * p) short)
 
-    no_line_is : (d : Due) → ((bs : List ℕ) → Line f d bs → ⊥) → line_on f d out ≡ (None, out)
+    no_line_is : (d : Due) → ((bs : List ℕ) → Line f d bs → ⊥) → line_on f (Some d) out ≡ (None, out)
     unfolding line_on
     no_line_is (Image p) none = absurd (none _ (Line.image p))
     no_line_is Ready none = absurd (none _ Line.ready)
@@ -87,12 +87,17 @@ module _ (f : List ℕ) where
     no_line_is (Back p) none = refl
     no_line_is Empty none = refl
 
-pub puts_line : (f : List ℕ) (d : Due) (out : List ℕ) → PutsLine f d out (line_on f d out).0 (line_on f d out).1
+    nothing_is : line_on f None out ≡ (None, out)
+    unfolding line_on
+    nothing_is = refl
+
+pub puts_line : (f : List ℕ) (d : Option Due) (out : List ℕ) → PutsLine f d out (line_on f d out).0 (line_on f d out).1
 puts_line f d out = record {
-  line = λ g bs fits h room.
-      let (a, b) = parts (put_is f out d bs (line_due f d g bs h) fits room) in
+  line = λ w g bs is fits h room.
+      let (a, b) = parts (rw is (put_is f out w bs (line_due f w g bs h) (rw is at fits) room)) in
       (a, b ∙ sets-eq bs out 0 (omega arith) ∙ rw zero-add);
-  no_room = λ g bs fits h short. parts (no_room_is f out d bs (line_due f d g bs h) fits short);
-  no_page = λ p e bad. parts (no_page_is f out d p e bad);
-  no_line = λ g none. parts (no_line_is f out d (λ bs l. none bs (due_line f d g bs l)));
+  no_room = λ w g bs is fits h short. parts (rw is (no_room_is f out w bs (line_due f w g bs h) (rw is at fits) short));
+  no_page = λ p is bad. parts (rw is (no_page_is f out p bad));
+  no_line = λ w g is none. parts (rw is (no_line_is f out w (λ bs l. none bs (due_line f w g bs l))));
+  nothing = λ is. parts (rw is (nothing_is f out));
 }

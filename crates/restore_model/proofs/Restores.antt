@@ -80,10 +80,10 @@ module _ (n : ℕ) (f j s : List ℕ) (sizes : Paged n f) (room : n ≤ length s
   comes : (g : Group) → Walked n j (walk_on n j) g → Answers n f j s (recover_on f j s) (recovery_of g)
   unfolding restored_on performed
   comes finished w = (untold s n, sized ∙ rw w.shown, none_told n s sizes.few room)
-  comes (imaged last back) w = let (from, is1, is, b, lines) = w.shown in (untold s n, sized ∙ rw is1, none_told n s sizes.few room)
+  comes (imaged last back) w = (untold s n, sized ∙ rw w.shown.0, none_told n s sizes.few room)
   comes (readied back) w =
-      let (from, is2, is, b, lines) = w.shown in
-      (marks back (untold s n), sized ∙ rw (is2, back_is n j b (length j) from f (untold s n) j _ lines (omega arith), file_left back (disk f j)), back_told n s sizes.few room b)
+      let (is2, is, b, lines) = w.shown in
+      (marks back (untold s n), sized ∙ rw (is2, back_is n j b (length j) (walk_on n j).from f (untold s n) j _ lines (omega arith), file_left back (disk f j)), back_told n s sizes.few room b)
   comes wrong w = sized ∙ rw w.shown
 
   recovery_is : recovery n (disk f j) ≡ recovery_of (last_group n j)
@@ -115,3 +115,7 @@ restores f j s r f' s' e = record {
     unpaged : (o : Option ℕ) → ((n : ℕ) → o ≡ Some n → n ≤ length s → ⊥) → ◌≡◌ {A = ℕ × List ℕ × List ℕ} (status (paged f j s o).0, (paged f j s o).1, (paged f j s o).2) (2, f, s)
     unpaged None bad = refl
     unpaged (Some n) bad = by_cases (ltb (length s) n) (λ h. rw h) (λ h. absurd (bad n refl (ltb-false (length s) n h)))
+
+-- the same of what it comes to
+pub recovered : (f j s : List ℕ) (r : Result ⊤ Refused) (f' s' : List ℕ) → recovery_on f j s ≡ (r, f', s') → Restores f j s (status r) f' s'
+recovered f j s r f' s' e = restores f j s (status r) f' s' (unfold recover_on in rw e)

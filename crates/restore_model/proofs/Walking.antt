@@ -26,11 +26,11 @@ record At (n : ℕ) (j : List ℕ) (i : ℕ) (w : Walk) (g : Group) (sofar : Lis
   stands : sofar ≡ part w.start (length sofar) j
   good : w.good ≡ all (λ c. is_digit c) sofar
   lines : lines_of sofar (drop i j) ≡ lines_of [] (drop w.start j)
-  shown : Shown n j w.group w.start g
+  shown : Shown n j w.group w.last w.from w.start g
 
 -- and at the end
 pub record Walked (n : ℕ) (j : List ℕ) (w : Walk) (g : Group) : Type 0 where
-  pub shown : Shown n j w.group w.start g
+  pub shown : Shown n j w.group w.last w.from w.start g
   pub over : lines_said n (drop w.start j) ≡ []
 
 all_more : (p : ℕ → Bool) (xs : List ℕ) (x : ℕ) → all p (xs ++ (x ∷ [])) ≡ (all p xs && p x)
@@ -71,12 +71,12 @@ module _ (n : ℕ) (few : n ≤ 128) (j : List ℕ) where
           stands = refl;
           good = refl;
           lines = refl;
-          shown = rw number (step n j w.group w.start (i + 1) g (line_read n (pairs_of l)) (fits w.start l at.stands _ refl) lines at.shown);
+          shown = rw number (step n j w.group w.last w.from w.start (i + 1) g (line_read n (pairs_of l)) (fits w.start l at.stands _ refl) lines at.shown);
         }
 
     -- another character
     at_more : get_or j i 0 ≢ 10 → (b : Bool) → b ≡ (w.good && is_digit (get_or j i 0))
-        → At n j (i + 1) (record { group = w.group; start = w.start; good = b }) g (l ++ (get_or j i 0 ∷ []))
+        → At n j (i + 1) (record { group = w.group; last = w.last; from = w.from; start = w.start; good = b }) g (l ++ (get_or j i 0 ∷ []))
     unfolding lines_of
     at_more ne b eb =
         let c = get_or j i 0 in

@@ -23,13 +23,14 @@ call_first s = option_map Image (marked_after s 0)
 abbrev pub recovery_first : List ℕ → Option Due
 recovery_first s = Some (due_after s Back Empty 0)
 
-abbrev pub due_next : List ℕ → Due → Option Due
-due_next s (Image p) = Some (due_after s Image Ready p)
-due_next s Ready = Some (due_after s Store Done 0)
-due_next s (Store p) = Some (due_after s Store Done p)
-due_next s Done = None
-due_next s (Back p) = Some (due_after s Back Empty p)
-due_next s Empty = None
+abbrev pub due_next : List ℕ → Option Due → Option Due
+due_next s (Some (Image p)) = Some (due_after s Image Ready p)
+due_next s (Some Ready) = Some (due_after s Store Done 0)
+due_next s (Some (Store p)) = Some (due_after s Store Done p)
+due_next s (Some Done) = None
+due_next s (Some (Back p)) = Some (due_after s Back Empty p)
+due_next s (Some Empty) = None
+due_next s None = None
 
 -- the pages that differ told in s, from page i + 1 on, k of them
 unfoldable pub marks_from : List ℕ → List ℕ → List ℕ → ℕ → ℕ → List ℕ
@@ -49,12 +50,13 @@ abbrev pub where_room : ℕ → List ℕ → List ℕ → Option ℕ × List ℕ
 where_room n out put = cond (ltb (length out) n) (None, out) (Some n, put)
 
 -- the line that is due put at the front of an output, and its length; none where it is no line, or there is no room
-unfoldable pub line_on : List ℕ → Due → List ℕ → Option ℕ × List ℕ
-line_on f (Image p) out =
+unfoldable pub line_on : List ℕ → Option Due → List ℕ → Option ℕ × List ℕ
+line_on f (Some (Image p)) out =
     cond (eqb p 0) (None, out)
     (cond (ltb (length f) (512 * p)) (None, out) (where_room 1029 out (image_put out 0 f p)))
-line_on f Ready out = where_room 5 out (mark_put out 0 0)
-line_on f (Store p) out = (None, out)
-line_on f Done out = where_room 5 out (mark_put out 0 65535)
-line_on f (Back p) out = (None, out)
-line_on f Empty out = (None, out)
+line_on f (Some Ready) out = where_room 5 out (mark_put out 0 0)
+line_on f (Some (Store p)) out = (None, out)
+line_on f (Some Done) out = where_room 5 out (mark_put out 0 65535)
+line_on f (Some (Back p)) out = (None, out)
+line_on f (Some Empty) out = (None, out)
+line_on f None out = (None, out)

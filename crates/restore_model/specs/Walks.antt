@@ -12,6 +12,10 @@ use Rattle.restore_model.specs.declared.Refused.{Refused}
 use Rattle.restore_model.specs.declared.Refused.TheVariants.{BadSize, BadJournal}
 use Rattle.restore_model.specs.Texts.{pages_in}
 
+-- the group that a number stands for
+unfoldable pub group_of : ℕ → Group
+group_of number = cond (eqb number 0) Finished (cond (eqb number 1) Imaged (cond (eqb number 2) Readied Wrong))
+
 -- the byte that two digits say, and the number that four do; another character reads as digit 0
 unfoldable pub hex_at : List ℕ → ℕ → ℕ
 hex_at j i = digit_value (get_or j i 0) % 16 * 16 + digit_value (get_or j (i + 1) 0) % 16
@@ -34,21 +38,40 @@ said_in n j start next good =
     (cond (eqb (next - start) 1029) (image_said n (page_said j start)) Malformed))
     Malformed
 
--- the group after a line that starts at `start`
-abbrev pub group_after : Group → Said → ℕ → Group
-group_after Finished (Image p) start = Imaged start p
-group_after (Imaged from last) (Image p) start = cond (ltb last p) (Imaged from p) Wrong
-group_after (Imaged from last) Ready start = Readied from
-group_after (Readied from) Done start = Finished
-group_after g said start = Wrong
+-- whether a page is above what the line before it said: an image's page, or 0 of ready; no page is above done and malformed
+abbrev pub rises : Said → ℕ → Bool
+rises (Image last) p = ltb last p
+rises Ready p = ltb 0 p
+rises last p = false
+
+-- the group after a line, where the line before it said `last`
+abbrev pub group_after : Group → Said → Said → Group
+group_after Finished last (Image p) = Imaged
+group_after Imaged last (Image p) = cond (rises last p) Imaged Wrong
+group_after Imaged last Ready = Readied
+group_after Readied last Done = Finished
+group_after g last said = Wrong
+
+-- where the group starts after a line that starts at `start`
+abbrev pub from_after : Group → ℕ → ℕ → ℕ
+from_after Finished from start = start
+from_after g from start = from
 
 -- a line read, that ends before `next`
 unfoldable pub line_read : ℕ → List ℕ → Walk → ℕ → Walk
-line_read n j w next = record { group = group_after w.group (said_in n j w.start next w.good) w.start; start = next; good = true }
+line_read n j w next =
+    let said = said_in n j w.start next w.good in
+    record {
+      group = group_after w.group w.last said;
+      last = said;
+      from = from_after w.group w.from w.start;
+      start = next;
+      good = true;
+    }
 
 -- a line that has another character
 abbrev pub spoiled : Walk → Walk
-spoiled w = record { group = w.group; start = w.start; good = false }
+spoiled w = record { group = w.group; last = w.last; from = w.from; start = w.start; good = false }
 
 -- a byte read, that stands before `next`
 unfoldable pub byte_read : ℕ → List ℕ → Walk → ℕ → ℕ → Walk
@@ -60,7 +83,7 @@ walk_from n j i [] w = w
 walk_from n j i (c ∷ cs) w = walk_from n j (i + 1) cs (byte_read n j w (i + 1) c)
 
 abbrev pub unwalked : Walk
-unwalked = record { group = Finished; start = 0; good = true }
+unwalked = record { group = Finished; last = Ready; from = 0; start = 0; good = true }
 
 unfoldable pub walk_on : ℕ → List ℕ → Walk
 walk_on n j = walk_from n j 0 j unwalked
@@ -88,12 +111,12 @@ unfoldable pub untold : List ℕ → ℕ → List ℕ
 untold s n = part_put s 0 (part 0 n (replicate 128 0))
 
 -- a walk's last group put back where it is readied
-abbrev pub put_back : List ℕ → List ℕ → List ℕ → Group → List ℕ × List ℕ
-put_back f j s (Readied from) = back_from j f s from (length j)
-put_back f j s g = (f, s)
+abbrev pub put_back : List ℕ → List ℕ → List ℕ → ℕ → Group → List ℕ × List ℕ
+put_back f j s from Readied = back_from j f s from (length j)
+put_back f j s from g = (f, s)
 
 unfoldable pub restored_on : List ℕ → List ℕ → List ℕ → ℕ → Walk → List ℕ × List ℕ
-restored_on f j s n w = put_back f j (untold s n) w.group
+restored_on f j s n w = put_back f j (untold s n) w.from w.group
 
 -- recovery: what it comes to, the file, and the pages stored
 abbrev pub walked : List ℕ → List ℕ → Group → List ℕ × List ℕ → Result ⊤ Refused × List ℕ × List ℕ

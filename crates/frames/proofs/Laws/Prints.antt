@@ -4,22 +4,25 @@ use mathlib.Core.Path.{◌≡◌, refl, ◌∙◌, sym, ap}
 use mathlib.Core.List.{List, [], ◌∷◌, ◌++◌}
 use native.Mathlib.Omega.{arith}
 use native.Mathlib.Numerals.{add-one}
-use lib.ListN.{length-take, length, get_or, take, drop, set, drop_of_length-le}
-use lib.Seq.{sets, drop-cons}
+use lib.ListN.{length-take, length-set, length, get_or, take, drop, set, drop_of_length-le}
+use lib.Seq.{sets, set_out, drop-cons}
 use Rattle.std.specs.Int.{w16, w32, to_be_bytes}
 use Rattle.ledger.specs.declared.Answer.{Answer}
 use Rattle.ledger.specs.Numbers.{digits, concat_of}
 use Rattle.ledger.specs.Player.{digit_of, hex_of, printed}
-use Rattle.model.specs.Moves.{part_put}
 use Rattle.frames_model.specs.Texts.{head_of, bytes_put, hex_put, text_put}
 use Rattle.frames_model.proofs.Texts.{line_put}
 
 -- put_hex
-pub hex_is : (out p : List ℕ) (at b d e : ℕ) → b < 256 → d ≡ digit_of (b / 16 % 16) → e ≡ digit_of (b % 16) → part_put out at (d ∷ e ∷ []) ≡ p → hex_put out at b ≡ p
-unfolding hex_put part_put
+pub hex_is : (out p : List ℕ) (at b d e : ℕ) → b < 256 → d ≡ digit_of (b / 16 % 16) → e ≡ digit_of (b % 16) → set (set out at d) (at + 1) e ≡ p → hex_put out at b ≡ p
+unfolding hex_put
 hex_is out p at b d e small ed ee ep =
     let h : b / 16 % 16 ≡ b / 16 = omega arith in
-    rw (add-one, ← h, ← ed, ← ee) ep
+    rw (← h, ← ed, ← ee) ep
+
+pub hex_past : (out : List ℕ) (at b : ℕ) → length out ≤ at → hex_put out at b ≡ out
+unfolding hex_put
+hex_past out at b h = set_out _ (at + 1) _ (simp length-set (omega arith)) ∙ set_out out at _ h
 
 -- put_bytes, where i bytes are put and x is the output with all of them
 module _ (bs : List ℕ) (at i : ℕ) (out x : List ℕ) (inv : sets out (at + 2 * i) (hex_of (drop i bs)) ≡ x) where

@@ -1,11 +1,22 @@
 -- Document 02 a, the writes of a call and of recovery one at a time: which write is due, and which after it.
 -- `f` is the file before and `g` after; `ps` are the pages that are stored, and `s` tells them: its byte p - 1 is 1.
-use Rattle.std.specs.Prelude.{ℕ, ◌-◌, Option, Some, None, List, [], ◌∷◌, ◌++◌, map, length, get_or, eqb}
+use Rattle.std.specs.Prelude.{ℕ, ◌-◌, Option, Some, None, cond, List, [], ◌∷◌, ◌++◌, map, length, get_or, eqb}
 use Rattle.ledger.specs.Numbers.{keep, run}
 use Rattle.ledger.specs.Bytes.{page_in}
 use Rattle.ledger.specs.declared.Due.{Due}
 use Rattle.ledger.specs.declared.Due.TheVariants.{Image, Ready, Store, Done, Back, Empty}
 use Rattle.ledger.specs.Journal.Writes.{image_line, ready_line, done_line, Write, append, store, clear}
+
+-- the write of a number: of a call 1 the image of a page, 2 ready, 3 a page stored, 4 done; of recovery 5 a page put back, 6 the journal emptied;
+-- none of any other number
+unfoldable pub due_of : ℕ → ℕ → Option Due
+due_of phase p =
+    cond (eqb phase 1) (Some (Image p))
+    (cond (eqb phase 2) (Some Ready)
+    (cond (eqb phase 3) (Some (Store p))
+    (cond (eqb phase 4) (Some Done)
+    (cond (eqb phase 5) (Some (Back p))
+    (cond (eqb phase 6) (Some Empty) None)))))
 
 -- the pages told
 unfoldable pub marked : List ℕ → List ℕ

@@ -60,25 +60,27 @@ pub record Marks (f f' s : List ℕ) (r : Option ℕ) (s' : List ℕ) : Type 0 w
   pub all : (n : ℕ) → Paged n f → length f ≡ length f' → n ≤ length s
       → (r ≡ Some n) × (marked (take n s') ≡ changed n f f') × (drop n s' ≡ drop n s) × (length s' ≡ length s)
 
--- next: after each write of a call, and of recovery, the one that comes after it, none after the last
-pub record Follows (s : List ℕ) (d : Due) (r : Option Due) : Type 0 where
-  pub in_call : (ds es : List Due) → call_dues (marked s) ≡ ds ++ (d ∷ es) → r ≡ first_of es
-  pub in_recovery : (ds es : List Due) → recovery_dues (marked s) ≡ ds ++ (d ∷ es) → r ≡ first_of es
+-- next: after each write of a call, and of recovery, the one that comes after it, none after the last; where nothing is due, nothing after it
+pub record Follows (s : List ℕ) (d r : Option Due) : Type 0 where
+  pub in_call : (w : Due) (ds es : List Due) → d ≡ Some w → call_dues (marked s) ≡ ds ++ (w ∷ es) → r ≡ first_of es
+  pub in_recovery : (w : Due) (ds es : List Due) → d ≡ Some w → recovery_dues (marked s) ≡ ds ++ (w ∷ es) → r ≡ first_of es
+  pub nothing : d ≡ None → r ≡ None
 
 -- what a loop performs that begins with d, goes on with what follows, and ends where nothing is due
 pub data Performs (s : List ℕ) : Option Due → List Due → Type 0 where
   ends : Performs s None []
-  goes : {d : Due} {r : Option Due} {ds : List Due} → Follows s d r → Performs s r ds → Performs s (Some d) (d ∷ ds)
+  goes : {d : Due} {r : Option Due} {ds : List Due} → Follows s (Some d) r → Performs s r ds → Performs s (Some d) (d ∷ ds)
 
 -- an image that is due is of a page of the file
-abbrev pub InFile : List ℕ → Due → Type 0
-InFile f d = (p : ℕ) → d ≡ Image p → (1 ≤ p) × (512 * p ≤ length f)
+abbrev pub InFile : List ℕ → Option Due → Type 0
+InFile f d = (p : ℕ) → d ≡ Some (Image p) → (1 ≤ p) × (512 * p ≤ length f)
 
 -- put_line: the line that is due, with its line end, stands at the front of `out`, and the rest stays; none and nothing written where a store is
--- due, where the page is none of the file, or where there is no room
-pub record PutsLine (f : List ℕ) (d : Due) (out : List ℕ) (r : Option ℕ) (out' : List ℕ) : Type 0 where
-  pub line : (g bs : List ℕ) → InFile f d → write_due f g d ≡ append bs → length bs ≤ length out
+-- due, or nothing, where the page is none of the file, or where there is no room
+pub record PutsLine (f : List ℕ) (d : Option Due) (out : List ℕ) (r : Option ℕ) (out' : List ℕ) : Type 0 where
+  pub line : (w : Due) (g bs : List ℕ) → d ≡ Some w → InFile f d → write_due f g w ≡ append bs → length bs ≤ length out
       → (r ≡ Some (length bs)) × (out' ≡ bs ++ drop (length bs) out)
-  pub no_room : (g bs : List ℕ) → InFile f d → write_due f g d ≡ append bs → length out < length bs → (r ≡ None) × (out' ≡ out)
-  pub no_page : (p : ℕ) → d ≡ Image p → (p ≡ 0) ⊎ (length f < 512 * p) → (r ≡ None) × (out' ≡ out)
-  pub no_line : (g : List ℕ) → ((bs : List ℕ) → write_due f g d ≡ append bs → ⊥) → (r ≡ None) × (out' ≡ out)
+  pub no_room : (w : Due) (g bs : List ℕ) → d ≡ Some w → InFile f d → write_due f g w ≡ append bs → length out < length bs → (r ≡ None) × (out' ≡ out)
+  pub no_page : (p : ℕ) → d ≡ Some (Image p) → (p ≡ 0) ⊎ (length f < 512 * p) → (r ≡ None) × (out' ≡ out)
+  pub no_line : (w : Due) (g : List ℕ) → d ≡ Some w → ((bs : List ℕ) → write_due f g w ≡ append bs → ⊥) → (r ≡ None) × (out' ≡ out)
+  pub nothing : d ≡ None → (r ≡ None) × (out' ≡ out)

@@ -61,20 +61,20 @@ module _ (f g s : List ℕ) where
 
 -- put_image_line
 module _ (f out : List ℕ) (p : ℕ) where
-  pub image_unnamed : p ≡ 0 → line_on f (Image p) out ≡ (None, out)
+  pub image_unnamed : p ≡ 0 → line_on f (Some (Image p)) out ≡ (None, out)
   unfolding line_on
   image_unnamed e = rw (eq-eqb p 0 e)
 
   module _ (n : p ≡ 0 → ⊥) where
-    pub image_beyond : length f / 512 < p → line_on f (Image p) out ≡ (None, out)
+    pub image_beyond : length f / 512 < p → line_on f (Some (Image p)) out ≡ (None, out)
     unfolding line_on
     image_beyond h = rw (ne_eqb p 0 n, lt-ltb (length f) (512 * p) (omega arith))
 
     module _ (h : p ≤ length f / 512) where
-      pub image_room : length out < 1029 → line_on f (Image p) out ≡ (None, out)
+      pub image_room : length out < 1029 → line_on f (Some (Image p)) out ≡ (None, out)
       unfolding line_on
       image_room g = rw (ne_eqb p 0 n, le-ltb (length f) (512 * p) (omega arith), lt-ltb (length out) 1029 g)
 
-      pub image_put_lem : (o : List ℕ) → 1029 ≤ length out → image_put out 0 f p ≡ o → line_on f (Image p) out ≡ (Some 1029, o)
+      pub image_put_lem : (o : List ℕ) → 1029 ≤ length out → image_put out 0 f p ≡ o → line_on f (Some (Image p)) out ≡ (Some 1029, o)
       unfolding line_on
       image_put_lem o g e = rw (ne_eqb p 0 n, le-ltb (length f) (512 * p) (omega arith), le-ltb (length out) 1029 g, e)

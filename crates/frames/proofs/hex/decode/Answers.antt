@@ -7,8 +7,8 @@ pub loop-c-init : goal.loop-c-init
 unfolding decode_on
 loop-c-init c = refl
 
-pub returns-in_err-s : goal.returns-in_err-s
-returns-in_err-s c = rw c.from_residual.ensures (decode_stop _ _ _ _ _ c.loop-c.invariant _ _ c.loop-c-test.true c.take_character.ensures c.in_err-s.was)
+pub returns-in_default : goal.returns-in_default
+returns-in_default c = search (decode_stop, rules)
 
 pub loop-c-preserved : goal.loop-c-preserved
 loop-c-preserved c = search (decode_next, rules)
@@ -16,5 +16,5 @@ loop-c-preserved c = search (decode_next, rules)
 pub returns-in-None : goal.returns-in-None
 returns-in-None c = grind (arith, decode_end _ _ _ _ _ c.loop-c.invariant c.loop-c-test.false)
 
-pub returns-in-Some : goal.returns-in-Some
-returns-in-Some c = grind (arith, decode_end _ _ _ _ _ c.loop-c.invariant c.loop-c-test.false)
+pub returns-in-Some-high : goal.returns-in-Some-high
+returns-in-Some-high c = grind (arith, decode_end _ _ _ _ _ c.loop-c.invariant c.loop-c-test.false)
