@@ -93,7 +93,7 @@ pub fn decode(line: &[u8], frame: &mut [u8]) -> Result<usize, usize>
 }
 
 // Puts the two digits of a byte into `out` at `at`: byte by byte, since a part put takes twice the time.
-#[tactic(auto, using(crate::proofs::Laws::Prints::hex_is, crate::proofs::Laws::Prints::hex_past))]
+#[tactic(auto, using(crate::proofs::Laws::Prints::hex_by_digits, crate::proofs::Laws::Prints::hex_past))]
 pub fn put_hex(out: &mut [u8], at: usize, b: u8)
     ensures { hex_put out.old at b ≡ out.new }
 {

@@ -10,15 +10,22 @@ use Rattle.std.specs.Int.{w16, w32, to_be_bytes}
 use Rattle.ledger.specs.declared.Answer.{Answer}
 use Rattle.ledger.specs.Numbers.{digits, concat_of}
 use Rattle.ledger.specs.Player.{digit_of, hex_of, printed}
+use Rattle.model.specs.Moves.{part_put}
 use Rattle.frames_model.specs.Texts.{head_of, bytes_put, hex_put, text_put}
 use Rattle.frames_model.proofs.Texts.{line_put}
 
--- put_hex
-pub hex_is : (out p : List ℕ) (at b d e : ℕ) → b < 256 → d ≡ digit_of (b / 16 % 16) → e ≡ digit_of (b % 16) → set (set out at d) (at + 1) e ≡ p → hex_put out at b ≡ p
+-- put_hex, digit by digit, and as a part
+pub hex_by_digits : (out p : List ℕ) (at b d e : ℕ) → b < 256 → d ≡ digit_of (b / 16 % 16) → e ≡ digit_of (b % 16) → set (set out at d) (at + 1) e ≡ p → hex_put out at b ≡ p
 unfolding hex_put
-hex_is out p at b d e small ed ee ep =
+hex_by_digits out p at b d e small ed ee ep =
     let h : b / 16 % 16 ≡ b / 16 = omega arith in
     rw (← h, ← ed, ← ee) ep
+
+pub hex_is : (out p : List ℕ) (at b d e : ℕ) → b < 256 → d ≡ digit_of (b / 16 % 16) → e ≡ digit_of (b % 16) → part_put out at (d ∷ e ∷ []) ≡ p → hex_put out at b ≡ p
+unfolding hex_put part_put
+hex_is out p at b d e small ed ee ep =
+    let h : b / 16 % 16 ≡ b / 16 = omega arith in
+    rw (add-one, ← h, ← ed, ← ee) ep
 
 pub hex_past : (out : List ℕ) (at b : ℕ) → length out ≤ at → hex_put out at b ≡ out
 unfolding hex_put

@@ -1,9 +1,9 @@
 -- Randomizing, the home page and the order of keys.
-use Rattle.std.proofs.Common.{Ordering, ◌≡◌, refl, ap, ℕ, ◌+◌, ◌-◌, ◌*◌, ◌%◌, ◌<◌, eqb, ◌&&◌, List, [], ◌∷◌, arith, fold}
+use Rattle.std.proofs.Common.{Ordering, ◌≡◌, refl, ap, ℕ, ◌+◌, ◌-◌, ◌*◌, ◌%◌, ◌<◌, Bool, eqb, ◌&&◌, List, [], ◌∷◌, Some, arith, fold}
 use Rattle.std.proofs.lemmas.Bool.Decides.{nat_tests}
-use Rattle.std.proofs.lemmas.Cmp.{same_from_slice_cmp}
-use Rattle.std.specs.Cmp.Lexicographic.{slice_cmp, pointwise}
-use Rattle.std.specs.Ordering.{nat_cmp, is_lt}
+use Rattle.std.proofs.lemmas.Cmp.{same_from_slice_cmp, same_from_slice_cmp_tested}
+use Rattle.std.specs.Cmp.Lexicographic.{slice_cmp, slice_partial_cmp, pointwise}
+use Rattle.std.specs.Ordering.{nat_cmp, is_lt, is_some_and}
 use native.Mathlib.Nat.{mod-one}
 use Rattle.ledger.specs.Numbers.{same_key, less_key}
 use Rattle.ledger.specs.Table.{low, high, row}
@@ -33,7 +33,11 @@ pointwise-same [] (y ∷ b) = refl
 pointwise-same (x ∷ a) [] = refl
 pointwise-same (x ∷ a) (y ∷ b) = ap (λ r. eqb x y && r) (pointwise-same a b)
 
--- less_key
-pub less_from_cmp : (a b : List ℕ) (r : Ordering) → r ≡ slice_cmp nat_cmp a b → is_lt r ≡ less_key a b
+-- less_key, by the library's order of slices: as `cmp` gives it, and as `<` tests it
+pub less_from_ordering : (a b : List ℕ) (r : Ordering) → r ≡ slice_cmp nat_cmp a b → is_lt r ≡ less_key a b
 unfolding less_key
-less_from_cmp = same_from_slice_cmp nat_cmp is_lt less_key refl (λ _ _. refl) (λ _ _. refl) (λ x y xs ys o h. grind (arith, nat_tests))
+less_from_ordering = same_from_slice_cmp nat_cmp is_lt less_key refl (λ _ _. refl) (λ _ _. refl) (λ x y xs ys o h. grind (arith, nat_tests))
+
+pub less_from_cmp : (a b : List ℕ) (r : Bool) → r ≡ is_some_and is_lt (slice_partial_cmp (λ x y. Some (nat_cmp x y)) a b) → r ≡ less_key a b
+unfolding less_key
+less_from_cmp = same_from_slice_cmp_tested nat_cmp is_lt less_key refl (λ _ _. refl) (λ _ _. refl) (λ x y xs ys o h. grind (arith, nat_tests))
