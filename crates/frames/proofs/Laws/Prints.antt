@@ -22,10 +22,8 @@ hex_by_digits out p at b d e small ed ee ep =
     rw (← h, ← ed, ← ee) ep
 
 pub hex_is : (out p : List ℕ) (at b d e : ℕ) → b < 256 → d ≡ digit_of (b / 16 % 16) → e ≡ digit_of (b % 16) → part_put out at (d ∷ e ∷ []) ≡ p → hex_put out at b ≡ p
-unfolding hex_put part_put
-hex_is out p at b d e small ed ee ep =
-    let h : b / 16 % 16 ≡ b / 16 = omega arith in
-    rw (add-one, ← h, ← ed, ← ee) ep
+unfolding part_put
+hex_is out p at b d e small ed ee ep = hex_by_digits out p at b d e small ed ee (rw add-one ep)
 
 pub hex_past : (out : List ℕ) (at b : ℕ) → length out ≤ at → hex_put out at b ≡ out
 unfolding hex_put
